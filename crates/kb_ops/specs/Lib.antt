@@ -1,0 +1,10 @@
+pub mod Rows
+pub mod Trees
+pub mod Find
+pub mod Codes
+pub mod Lists
+pub mod Plan
+pub mod Sorted
+pub mod Spots
+pub mod ListTree
+pub mod Placing
