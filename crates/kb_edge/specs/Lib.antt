@@ -1,2 +1,4 @@
 pub mod Causes
+pub mod Disk
+pub mod Ends
 pub mod Goes

@@ -1,4 +1,7 @@
 //! How a call of the outside fails, and want of memory.
+ghost use Rattle.std.specs.Prelude.{◌≡◌, ◌≤◌};
+ghost use Rattle.kb_edge.specs.Causes.{raised};
+
 use std::alloc::{AllocError, AllocFailed};
 
 /// A read or a write failed.
@@ -23,4 +26,13 @@ impl<T: Drop> From<AllocFailed<T>> for Memory {
     fn from(_: AllocFailed<T>) -> Memory {
         Memory
     }
+}
+
+// One fault more, and what is told of it.
+pub(crate) fn fail(faults: &mut u64) -> Failed
+    ensures raised { faults.new ≡ raised faults.old }
+    ensures later { faults.old ≤ faults.new }
+{
+    *faults = faults.saturating_add(1);
+    Failed
 }

@@ -1,11 +1,11 @@
-//! Adapters of std's ends, which tell nothing of contents.
+//! Adapters of std's ends: the edge where the proofs trust the system.
 ghost use Rattle.std.specs.Prelude.{None};
 
-use crate::faults::Failed;
+use crate::faults::{Failed, fail};
 use crate::streams::{Sink, Source};
 use std::io::{Read, Write};
 
-/// A source over a reader of std.
+/// A source over a reader of std. It tells of its bytes what the reader tells, which is nothing for standard input.
 #[derive(Drop)]
 pub struct StdSource<R: Read + Drop> {
     inner: R,
@@ -26,15 +26,13 @@ impl<R: Read + Drop> Source for StdSource<R> {
     fn read(&mut self, into: &mut [u8]) -> Result<usize, Failed> {
         match self.inner.read(into) {
             Ok(count) => Ok(count),
-            Err(_) => {
-                self.faults = self.faults.saturating_add(1);
-                Err(Failed)
-            }
+            Err(_) => Err(fail(&mut self.faults)),
         }
     }
 }
 
-/// A sink over a writer of std.
+/// A sink over a writer of std, which is flushed behind each piece. It tells nothing of the bytes held. A write that
+/// takes nothing is a fault.
 #[derive(Drop)]
 pub struct StdSink<W: Write + Drop> {
     inner: W,
@@ -56,23 +54,13 @@ impl<W: Write + Drop> Sink for StdSink<W> {
         let mut done = 0;
         while done < piece.len() {
             match self.inner.write(&piece[done..]) {
-                Ok(0) => {
-                    self.faults = self.faults.saturating_add(1);
-                    return Err(Failed);
-                }
+                Ok(0) | Err(_) => return Err(fail(&mut self.faults)),
                 Ok(count) => done += count,
-                Err(_) => {
-                    self.faults = self.faults.saturating_add(1);
-                    return Err(Failed);
-                }
             }
         }
         match self.inner.flush() {
             Ok(()) => Ok(()),
-            Err(_) => {
-                self.faults = self.faults.saturating_add(1);
-                Err(Failed)
-            }
+            Err(_) => Err(fail(&mut self.faults)),
         }
     }
 }
