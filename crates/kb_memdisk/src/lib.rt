@@ -1,0 +1,9 @@
+//! Disks in memory, whose failures and power cuts are called for.
+#![tactic(auto)]
+
+mod cells;
+mod disk;
+#[cfg(test)]
+mod tests;
+
+pub use disk::{MemDisk, Rack};
