@@ -1,0 +1,11 @@
+mod Append
+mod Compact
+mod Fill
+mod Images
+mod Kept
+mod Opened
+mod Records
+mod Replaced
+mod Resettled
+mod Scan
+mod Seen

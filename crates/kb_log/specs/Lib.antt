@@ -1,0 +1,5 @@
+pub mod Images
+pub mod LogList
+pub mod Pieces
+pub mod State
+pub mod Steps
