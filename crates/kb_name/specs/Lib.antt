@@ -2,6 +2,5 @@ pub mod Texts
 pub mod Names
 pub mod Moments
 pub mod Nodes
-pub mod Gives
 pub mod Paths
 pub mod Spelled

@@ -1,5 +1,5 @@
 -- What a name is.
-use Rattle.std.specs.Prelude.{ℕ, Bool, not, ◌&&◌, ◌||◌, List, [], ◌∷◌, length, nat_le, nat_eq}
+use Rattle.std.specs.Prelude.{◌≡◌, true, ℕ, Bool, not, ◌&&◌, ◌||◌, List, [], ◌∷◌, length, nat_le, nat_eq}
 use Rattle.std.specs.List.{list_all}
 use Rattle.std.specs.Str.{bytes_eq, is_utf8}
 
@@ -29,3 +29,7 @@ is_device_name bs = not (nat_eq (length bs) 0) && (nat_le (length bs) 24 && is_d
 -- a name, or none
 abbrev pub is_kept_name : List ℕ → Bool
 is_kept_name bs = nat_eq (length bs) 0 || is_name bs
+
+-- each of the texts is a name
+abbrev pub AreNames : List (List ℕ) → Type 0
+AreNames names = list_all is_name names ≡ true

@@ -14,3 +14,6 @@ pub use ids::NodeId;
 pub use moments::Moment;
 pub use names::{DeviceName, Name, NameFault};
 pub use paths::{Path, PathFault};
+
+#[cfg(test)]
+mod tests;

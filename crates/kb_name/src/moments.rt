@@ -1,4 +1,4 @@
-ghost use Rattle.std.specs.Prelude.{◌≡◌, ◌↔◌, ◌<◌, IfSome, IsNone};
+ghost use Rattle.std.specs.Prelude.{◌≡◌, ◌↔◌, ◌<◌, ◌≤◌, IfSome, IsNone};
 ghost use Rattle.kb_name.specs.Moments.{last_second};
 
 use std::marker::Model;
@@ -23,8 +23,10 @@ impl Model for Moment {
 }
 
 impl Moment {
+    /// The start of 1970.
     pub const START: Moment = Moment { seconds: 0 };
 
+    /// The moment so many seconds after the start of 1970; none past the end of 9999.
     pub fn new(seconds: u64) -> Option<Moment>
         ensures past { IsNone result ↔ (last_second < seconds) }
         ensures found { IfSome result (λ m. m ≡ seconds) }
@@ -37,7 +39,8 @@ impl Moment {
     }
 
     pub fn seconds(self) -> u64
-        ensures { result ≡ self }
+        ensures value { result ≡ self }
+        ensures within { result ≤ last_second }
     {
         self.seconds
     }

@@ -1,7 +1,6 @@
-ghost use Rattle.std.specs.Prelude.{◌≡◌, [], true, false};
+ghost use Rattle.std.specs.Prelude.{◌≡◌, [], true, false, IfOk};
 ghost use Rattle.std.specs.Str.{is_utf8};
 ghost use Rattle.kb_name.specs.Names.{is_name, is_kept_name, is_plain_text, is_dots, is_device_name, is_device_text};
-ghost use Rattle.kb_name.specs.Gives.{GivesName, name_of, device_name_of};
 
 use std::alloc::{AllocError, Global};
 use std::marker::Model;
@@ -52,8 +51,10 @@ impl Name {
         }
     }
 
+    /// The name of these bytes, if they are one.
     pub fn new(alloc: Global, bytes: &[u8]) -> Result<Self, NameFault>
-        ensures { GivesName (λ n. n) result (name_of bytes.now) }
+        ensures name { IfOk result (λ n. (n ≡ bytes.now) × (is_name bytes.now ≡ true)) }
+        ensures bad_name { result ≡ Err NameFault.BadName → is_name bytes.now ≡ false }
     {
         if !is_name(bytes) {
             return Err(NameFault::BadName);
@@ -111,8 +112,10 @@ impl Model for DeviceName {
 }
 
 impl DeviceName {
+    /// The device name of these bytes, if they are one.
     pub fn new(alloc: Global, bytes: &[u8]) -> Result<Self, NameFault>
-        ensures { GivesName (λ n. n) result (device_name_of bytes.now) }
+        ensures name { IfOk result (λ n. (n ≡ bytes.now) × (is_device_name bytes.now ≡ true)) }
+        ensures bad_name { result ≡ Err NameFault.BadName → is_device_name bytes.now ≡ false }
     {
         if !is_device_name(bytes) {
             return Err(NameFault::BadName);
@@ -139,8 +142,20 @@ impl Clone for DeviceName {
     }
 }
 
-/// Whether the bytes are a row's name.
-pub fn is_name(bytes: &[u8]) -> bool
+impl PartialEq for DeviceName {
+    ghost use Rattle.std.specs.Str.{bytes_eq};
+    ghost use Rattle.std.proofs.Common.{rules};
+
+    ghost eq = { bytes_eq };
+
+    ghost laws = { Prim.search rules };
+
+    fn eq(&self, other: &DeviceName) -> bool {
+        self.bytes() == other.bytes()
+    }
+}
+
+fn is_name(bytes: &[u8]) -> bool
     ensures { result ≡ is_name bytes.now }
 {
     !bytes.is_empty() && bytes.len() <= 255 && is_plain(bytes) && !is_dots(bytes) && is_utf8(bytes)
@@ -158,8 +173,7 @@ fn is_dots(bytes: &[u8]) -> bool
     bytes == b".".as_slice() || bytes == b"..".as_slice()
 }
 
-/// Whether the bytes are UTF-8.
-pub fn is_utf8(bytes: &[u8]) -> bool
+fn is_utf8(bytes: &[u8]) -> bool
     ensures { result ≡ is_utf8 bytes.now }
 {
     match str::from_utf8(bytes) {
@@ -168,8 +182,7 @@ pub fn is_utf8(bytes: &[u8]) -> bool
     }
 }
 
-/// Whether the bytes are a device's name.
-pub fn is_device_name(bytes: &[u8]) -> bool
+fn is_device_name(bytes: &[u8]) -> bool
     ensures { result ≡ is_device_name bytes.now }
 {
     !bytes.is_empty() && bytes.len() <= 24 && is_device_text(bytes)
