@@ -20,13 +20,13 @@ use Rattle.kb_ops.proofs.Nodes.{node_is, node_self, node_other, apart, and_first
 use Rattle.kb_ops.proofs.Looks.{nodes_total, tested}
 use Rattle.kb_ops.proofs.Lists.{less_is}
 
-abbrev Entries : Type 0
+abbrev pub Entries : Type 0
 Entries = List (NodeId × Row)
 
-abbrev rows_in : Entries → List Row
+abbrev pub rows_in : Entries → List Row
 rows_in es = map (λ (e : NodeId × Row). e.1) es
 
-abbrev at_id : NodeId → Entries → Option Row
+abbrev pub at_id : NodeId → Entries → Option Row
 at_id q es = entries.find node_cmp q es
 
 some_is : {A : Type 0} (x y : A) → Some x ≡ Some y → x ≡ y
@@ -60,7 +60,7 @@ above k q r (e ∷ es) up h =
     ] refl h
 
 -- a row that passes is found by its key
-passes_some : (p : Row → Bool) (r : Row) (es : Entries) → entries.is_sorted node_cmp es ≡ true → find p (rows_in es) ≡ Some r → (q : NodeId) × (at_id q es ≡ Some r) × (p r ≡ true)
+pub passes_some : (p : Row → Bool) (r : Row) (es : Entries) → entries.is_sorted node_cmp es ≡ true → find p (rows_in es) ≡ Some r → (q : NodeId) × (at_id q es ≡ Some r) × (p r ≡ true)
 passes_some p r [] up h = absurd (none_some r h)
 passes_some p r (e ∷ es) up h =
     elim (p e.1) as (λ b. p e.1 ≡ b → cond b (Some e.1) (find p (rows_in es)) ≡ Some r → (q : NodeId) × (at_id q (e ∷ es) ≡ Some r) × (p r ≡ true)) [
@@ -70,11 +70,11 @@ passes_some p r (e ∷ es) up h =
           (w.0, ap (λ b. cond b (Some e.1) (at_id w.0 es)) (above e.0 w.0 r es (and_first _ _ up) w.1) ∙ w.1, w.2)
     ] refl h
 
-is_true : (b : Bool) → T b → b ≡ true
+pub is_true : (b : Bool) → T b → b ≡ true
 is_true true h = refl
 is_true false h = absurd h
 
-not_true : (b : Bool) → not b ≡ true → b ≡ false
+pub not_true : (b : Bool) → not b ≡ true → b ≡ false
 not_true true h = absurd (true≢false (sym h))
 not_true false h = refl
 

@@ -18,7 +18,7 @@ use Rattle.kb_ops.specs.declared.requests.Request.{Request}
 use Rattle.kb_ops.specs.declared.requests.Request.TheVariants as asks
 use Rattle.kb_ops.specs.declared.requests.PlanFault.{PlanFault}
 use Rattle.kb_ops.specs.declared.requests.PlanFault.TheVariants.{NotDir, NotFile, Exists, NotEmpty, Inside, TooBig, TreeFull, NotFound}
-use Rattle.kb_name.specs.Names.{is_name}
+use Rattle.kb_name.specs.Names.{is_name, AreNames}
 use Rattle.kb_name.specs.declared.paths.PathFault.{PathFault}
 use Rattle.kb_name.specs.declared.paths.PathFault.TheVariants as paths
 use Rattle.kb_name.specs.Paths.{path_of, at_most_64, names_in, names_behind, all_names}
@@ -27,14 +27,14 @@ use Rattle.kb_name.specs.Nodes.{root, same_node, node_cmp}
 use Rattle.kb_ops.specs.Rows.{is_dir, meets, HasNoChild, FitsNew, FitsRename}
 use Rattle.kb_ops.specs.Trees.{Tree, look, IsWellFormed, created, FitsChange, IsFileAt}
 use Rattle.kb_ops.specs.Find.{child, find_from}
-use Rattle.kb_ops.specs.Plan.{◌>>=◌, refused, split_last, Place, place_in, place_at, has_child, is_below, plan_create, plan_remove, plan_onto, plan_into, plan_move, both, file_at, is_file_kind, plan_write, plan_cut, plan_exec, plan_touch, change_for, AreNames, read, both_paths}
+use Rattle.kb_ops.specs.Plan.{◌>>=◌, refused, split_last, Place, place_in, place_at, has_child, is_below, plan_create, plan_remove, plan_onto, plan_into, plan_move, both, file_at, is_file_kind, plan_write, plan_cut, plan_exec, plan_touch, change_for, read, both_paths}
 use Rattle.kb_ops.proofs.Nodes.{node_self, node_other, apart, node_cases, and_first, and_second}
 use Rattle.kb_ops.proofs.Walks.{meets_from, row_cases, or_no_left, or_no_right}
 use Rattle.kb_ops.proofs.Kept.{some_and, and_some, dir_at}
 use Rattle.kb_ops.proofs.Children.{child_stands, no_child_free}
 
 -- how an answer came about
-bind_ok : {A B E : Type 0} (r : Result A E) (f : A → Result B E) (y : B) → (r >>= f) ≡ Ok y → (x : A) × (r ≡ Ok x) × (f x ≡ Ok y)
+pub bind_ok : {A B E : Type 0} (r : Result A E) (f : A → Result B E) (y : B) → (r >>= f) ≡ Ok y → (x : A) × (r ≡ Ok x) × (f x ≡ Ok y)
 bind_ok (Ok x) f y h = (x, refl, h)
 bind_ok (Err e) f y h = cc
 
@@ -61,7 +61,7 @@ both_ok (Err walk.NotFound) (Err f) x h = cc
 both_ok (Err walk.NotDir) (Err f) x h = cc
 
 -- the end of a walk is there
-walk_there : (t : Tree) → IsWellFormed t → (names : List (List ℕ)) (q x : NodeId) → IsSome (look t q) → find_from t q names ≡ Ok x → IsSome (look t x)
+pub walk_there : (t : Tree) → IsWellFormed t → (names : List (List ℕ)) (q x : NodeId) → IsSome (look t q) → find_from t q names ≡ Ok x → IsSome (look t x)
 unfolding value_or
 walk_there t w [] q x there h = subst (λ k. IsSome (look t k)) (ap (value_or q) h) there
 walk_there t w (n ∷ names) q x there h =
@@ -73,7 +73,7 @@ walk_there t w (n ∷ names) q x there h =
       | false ↦ λ g. cc
     ] h
 
-root_there : (t : Tree) → IsWellFormed t → IsSome (look t root)
+pub root_there : (t : Tree) → IsWellFormed t → IsSome (look t root)
 root_there t w = ap is_some (some_and _ (look t root) w.rooted).1
 
 none_some : {A : Type 0} (x : A) → None ≢ Some x
@@ -125,20 +125,15 @@ both_paths_ok (Err paths.BadPath) (Err f) x h = cc
 both_paths_ok (Err paths.TooDeep) (Err f) x h = cc
 both_paths_ok (Err paths.Memory) (Err f) x h = cc
 
--- names that pass the test
-all_are : (names : List (List ℕ)) → list_all is_name names ≡ true → AreNames names
-all_are [] h = tt
-all_are (n ∷ names) h = (and_first _ _ h, all_are names (and_second _ _ h))
-
 all_names_named : (texts names : List (List ℕ)) → all_names texts ≡ Ok names → AreNames names
 all_names_named texts names h =
     elim (list_all is_name texts) as (λ b. list_all is_name texts ≡ b → cond b (Ok texts) (Err paths.BadPath) ≡ Ok names → AreNames names) [
-      | true ↦ λ e g. let same : texts ≡ names = cc in subst AreNames same (all_are texts e)
+      | true ↦ λ e g. let same : texts ≡ names = cc in subst AreNames same e
       | false ↦ λ e g. cc
     ] refl h
 
 behind_named : (text : List ℕ) (names : List (List ℕ)) → names_behind text ≡ Ok names → AreNames names
-behind_named [] names h = let same : [] ≡ names = cc in subst AreNames same tt
+behind_named [] names h = let same : [] ≡ names = cc in subst AreNames same refl
 behind_named (b ∷ rest) names h = all_names_named (map percent_decode (slice_split (λ b. b == 47) (b ∷ rest))) names h
 
 in_named : (word : List ℕ) (names : List (List ℕ)) → names_in word ≡ Ok names → AreNames names
@@ -169,8 +164,8 @@ last_name : (names : List (List ℕ)) → AreNames names → (s : List (List ℕ
 last_name [] h s e = absurd (none_some s e)
 last_name (n ∷ names) h s e =
     elim (split_last names) as (λ o. split_last names ≡ o → option_map_or (λ (x : List (List ℕ) × List ℕ). Some (n ∷ x.0, x.1)) o (Some ([], n)) ≡ Some s → is_name s.1 ≡ true) [
-      | None ↦ λ p g. subst (λ (x : List ℕ). is_name x ≡ true) (ap (λ o. (unwrap_or o s).1) g) h.0
-      | Some x ↦ λ p g. subst (λ (y : List ℕ). is_name y ≡ true) (ap (λ o. (unwrap_or o s).1) g) (last_name names h.1 x p)
+      | None ↦ λ p g. subst (λ (x : List ℕ). is_name x ≡ true) (ap (λ o. (unwrap_or o s).1) g) (and_first _ _ h)
+      | Some x ↦ λ p g. subst (λ (y : List ℕ). is_name y ≡ true) (ap (λ o. (unwrap_or o s).1) g) (last_name names (and_second _ _ h) x p)
     ] refl e
 
 max-right : (a b : ℕ) → b ≤ max a b

@@ -4,7 +4,10 @@ pub mod Find
 pub mod Codes
 pub mod Lists
 pub mod Plan
+pub mod Refusals
+pub mod Laws
+pub mod Grammar
+pub mod Parses
 pub mod Sorted
 pub mod Spots
-pub mod ListTree
 pub mod Placing

@@ -18,7 +18,6 @@ use Rattle.kb_ops.specs.declared.requests.Planned.{Planned}
 use Rattle.kb_ops.specs.declared.requests.Planned.TheVariants.{Same, Made}
 use Rattle.kb_ops.specs.declared.requests.Request.{Request}
 use Rattle.kb_ops.specs.declared.requests.Request.TheVariants as asks
-use Rattle.kb_name.specs.Names.{is_name}
 use Rattle.kb_name.specs.declared.paths.PathFault.{PathFault}
 use Rattle.kb_name.specs.declared.paths.PathFault.TheVariants as paths
 use Rattle.kb_name.specs.Paths.{path_of}
@@ -191,8 +190,3 @@ planned device seq moment (Some change) = Made (record { device = device; seq = 
 
 abbrev pub plan_of : Tree → Request → ℕ → ℕ → ℕ → Result Planned PlanFault
 plan_of t request device seq moment = change_for t request >>= λ c. Ok (planned device seq moment c)
-
--- each name of a path is one
-abbrev pub AreNames : List (List ℕ) → Type 0
-AreNames [] = Unit {0}
-AreNames (n ∷ names) = (is_name n ≡ true) × AreNames names
