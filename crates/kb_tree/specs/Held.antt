@@ -4,9 +4,7 @@ use Rattle.std.specs.Coded.{Coded, code_by, coded×, coded_ℕ}
 use Rattle.kb_ops.specs.Trees.{Tree, IsWellFormed}
 use Rattle.kb_ops.specs.Codes.{coded_tree}
 use Rattle.kb_ops.specs.Lists.{rises, tree_of}
-use Rattle.kb_name.specs.declared.ids.NodeId.{NodeId}
 use Rattle.kb_ops.specs.declared.rows.Row.{Row}
-use Rattle.kb_ops.specs.Spots.{IsIndex}
 
 pub record Held : Type 0 where
   pub tree : Tree
@@ -19,8 +17,3 @@ coded_held = code_by (Tree × ℕ) (coded× coded_tree coded_ℕ) (λ h. (h.tree
 pub record AreKept (rows : List Row) : Type 0 where
   pub rise : rises rows ≡ true
   pub formed : IsWellFormed (tree_of rows)
-
--- and beside them the ids in the order of their places
-pub record AreIndexed (rows : List Row) (ids : List NodeId) : Type 0 where
-  pub kept : AreKept rows
-  pub index : IsIndex (tree_of rows) ids

@@ -1,6 +1,8 @@
-use Rattle.std.proofs.Common.{◌≡◌, zero, suc, ◌+◌, ◌-◌, true, sym, ◌∙◌, subst, arith}
+use Rattle.std.proofs.Common.{◌≡◌, ◌≢◌, zero, suc, ◌+◌, ◌-◌, true, sym, ap, ◌∙◌, subst, arith}
 use Rattle.std.specs.FinMap as map
+use Rattle.kb_name.specs.Nodes.{root}
 use Rattle.kb_ops.specs.Trees.{look}
+use Rattle.kb_tree.proofs.Found.{root_meets}
 use Rattle.kb_ops.specs.Rows.{meets}
 use Rattle.kb_ops.proofs.Nodes.{node_is, apart}
 use Rattle.kb_ops.proofs.Walks.{meets_here, meets_next, meets_nowhere}
@@ -12,6 +14,14 @@ returns-then-eq c =
     let n = map.len c.args.self.now.tree - c.loop.counter in
     let left : n + c.loop.counter ≡ map.len c.args.self.now.tree = omega arith in
     sym (subst (λ x. meets t c.args.node n x ≡ true) (sym (node_is _ _ (sym c.eq.ensures ∙ c.if-eq.true))) (meets_here t c.args.node n)) ∙ c.loop.invariant n left
+
+pub returns-then-eq-2 : goal.returns-then-eq-2
+returns-then-eq-2 c =
+    let n = map.len c.args.self.now.tree - c.loop.counter in
+    let left : n + c.loop.counter ≡ map.len c.args.self.now.tree = omega arith in
+    let at : c.loop.from ≡ root = node_is _ _ (sym c.eq-in-loop.ensures ∙ c.if-eq-2.true) in
+    let off : root ≢ c.args.node = λ e. apart _ _ (sym c.eq.ensures ∙ c.if-eq.false) (at ∙ e) in
+    sym (ap (meets (look c.args.self.now.tree) c.args.node n) at ∙ root_meets c.args.self.now.tree c.is_well_formed.ensures c.args.node off n) ∙ c.loop.invariant n left
 
 pub returns-in-None : goal.returns-in-None
 returns-in-None c =
