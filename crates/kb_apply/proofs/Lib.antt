@@ -1,0 +1,4 @@
+pub mod Patching
+pub mod Laws
+pub mod Children
+pub mod Listing

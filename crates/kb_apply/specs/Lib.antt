@@ -1,0 +1,5 @@
+pub mod Places
+pub mod Prepared
+pub mod Children
+pub mod Shows
+pub mod Waiting

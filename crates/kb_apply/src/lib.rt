@@ -1,0 +1,13 @@
+//! What requests and shows come to on a table, and doing an operation.
+#![tactic(auto)]
+
+mod doing;
+mod plans;
+mod shows;
+
+pub use doing::{Prepared, apply, prepare};
+pub use plans::plan;
+pub use shows::{ShowFault, show};
+
+#[cfg(test)]
+mod tests;
