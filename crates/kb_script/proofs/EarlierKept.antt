@@ -1,0 +1,61 @@
+-- One statement more among those before, and that it fits behind them.
+use Rattle.std.proofs.Common.{◌≡◌, ℕ, Bool, List, [], ◌∷◌, ◌++◌, length, reverse, refl, sym, ◌∙◌, ap, subst, length-append, append_assoc, append-nil}
+use Rattle.std.specs.List.{list_any}
+use Rattle.std.proofs.lemmas.List.{reverse-append}
+use Rattle.kb_script.specs.declared.statements.Statement.{Statement}
+use Rattle.kb_script.specs.declared.statements.Statement.TheVariants.{Device, Found, At, Open, File, Look}
+use Rattle.kb_script.specs.Fit.{IsFit, AllFit, AllFitFrom, declared_after, found_after}
+use Rattle.kb_script.specs.Seen.{Known}
+use Rattle.kb_script.specs.Earlier.{known_of, after, declared, is_found, AllFitBack}
+
+pub known_step : (earlier : List Statement) (s : Statement) → after (known_of earlier) s ≡ known_of (s ∷ earlier)
+known_step earlier (Device name size) = refl
+known_step earlier (Found d) = refl
+known_step earlier (At m) = refl
+known_step earlier (Open d) = refl
+known_step earlier (File d r) = refl
+known_step earlier (Look d r) = refl
+
+pub back_push : (old new : List Statement) (s : Statement) → new ≡ old ++ s ∷ [] → reverse new ≡ s ∷ reverse old
+back_push old new s now = ap reverse now ∙ reverse-append old (s ∷ [])
+
+pub known_kept : (old new : List Statement) (k l : Known) (s : Statement) → k ≡ known_of (reverse old) → l ≡ after k s → new ≡ old ++ s ∷ [] → l ≡ known_of (reverse new)
+known_kept old new k l s was now pushed = now ∙ ap (λ m. after m s) was ∙ known_step (reverse old) s ∙ ap known_of (sym (back_push old new s pushed))
+
+pub fit_kept : (old new : List Statement) (k : Known) (n : ℕ) (s : Statement) → k ≡ known_of (reverse old) → n ≡ length k.devices → IsFit n k.found s → AllFitBack (reverse old) → new ≡ old ++ s ∷ [] → AllFitBack (reverse new)
+fit_kept old new k n s was is fits fit pushed =
+    let P : Known → Type 0 = λ m. IsFit (length m.devices) m.found s in
+    let Q : ℕ → Type 0 = λ m. IsFit m k.found s in
+    subst AllFitBack (sym (back_push old new s pushed)) (subst P was (subst Q is fits), fit)
+
+-- ---- from latest first to their order
+
+counted : (s : Statement) (earlier : List Statement) → length (declared (s ∷ earlier)) ≡ declared_after (length (declared earlier)) s
+counted (Device name size) earlier = length-append (declared earlier) (name ∷ [])
+counted (Found d) earlier = refl
+counted (At m) earlier = refl
+counted (Open d) earlier = refl
+counted (File d r) earlier = refl
+counted (Look d r) earlier = refl
+
+founded : (s : Statement) (earlier : List Statement) → list_any is_found (s ∷ earlier) ≡ found_after (list_any is_found earlier) s
+founded (Device name size) earlier = refl
+founded (Found d) earlier = refl
+founded (At m) earlier = refl
+founded (Open d) earlier = refl
+founded (File d r) earlier = refl
+founded (Look d r) earlier = refl
+
+turned : (s : Statement) (rest earlier : List Statement) → reverse (s ∷ rest) ++ earlier ≡ reverse rest ++ (s ∷ earlier)
+turned s rest earlier = ap (λ l. l ++ earlier) (reverse-append (s ∷ []) rest) ∙ append_assoc (reverse rest) (s ∷ []) earlier
+
+in_order : (rest earlier : List Statement) → AllFitBack (reverse rest ++ earlier) → AllFitFrom (length (declared earlier)) (list_any is_found earlier) rest × AllFitBack earlier
+in_order [] earlier fit = (tt, fit)
+in_order (s ∷ rest) earlier fit =
+    let more = in_order rest (s ∷ earlier) (subst AllFitBack (turned s rest earlier) fit) in
+    let P : ℕ → Type 0 = λ n. AllFitFrom n (list_any is_found (s ∷ earlier)) rest in
+    let Q : Bool → Type 0 = λ b. AllFitFrom (declared_after (length (declared earlier)) s) b rest in
+    ((more.1.0, subst Q (founded s earlier) (subst P (counted s earlier) more.0)), more.1.1)
+
+pub all_fit : (statements : List Statement) → AllFitBack (reverse statements) → AllFit statements
+all_fit statements fit = (in_order statements [] (subst AllFitBack (sym (append-nil (reverse statements))) fit)).0

@@ -1,0 +1,11 @@
+pub mod Fit
+pub mod Lines
+pub mod Gives
+pub mod Words
+pub mod Table
+pub mod Seen
+pub mod Reasons
+pub mod Choices
+pub mod Earlier
+pub mod Answers
+pub mod Scripts

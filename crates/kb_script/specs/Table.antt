@@ -1,0 +1,101 @@
+-- The statements: how their first word is spelled, what words may follow it, and where they may stand.
+use Rattle.std.specs.Prelude.{ℕ, Bool, List, [], ◌∷◌, ◌++◌, find, codes, Option, if◌then◌else◌}
+use Rattle.std.specs.List.{list_any}
+use Rattle.std.specs.Str.{bytes_eq}
+use Rattle.kb_name.specs.Moments.{last_second}
+use Rattle.kb_script.specs.declared.verbs.Verb.{Verb}
+use Rattle.kb_script.specs.declared.verbs.Verb.TheVariants.{Device, Found, At, Open, Mkdir, Mkfile, Link, Remove, Move, Write, Cut, Chmod, Touch, Cat, Ls, Tree, Stat}
+
+abbrev pub spelling : Verb → List ℕ
+spelling Device = codes "device"
+spelling Found = codes "found"
+spelling At = codes "at"
+spelling Open = codes "open"
+spelling Mkdir = codes "mkdir"
+spelling Mkfile = codes "mkfile"
+spelling Link = codes "link"
+spelling Remove = codes "rm"
+spelling Move = codes "mv"
+spelling Write = codes "write"
+spelling Cut = codes "cut"
+spelling Chmod = codes "chmod"
+spelling Touch = codes "touch"
+spelling Cat = codes "cat"
+spelling Ls = codes "ls"
+spelling Tree = codes "tree"
+spelling Stat = codes "stat"
+
+abbrev pub verbs : List Verb
+verbs = Device ∷ Found ∷ At ∷ Open ∷ Mkdir ∷ Mkfile ∷ Link ∷ Remove ∷ Move ∷ Write ∷ Cut ∷ Chmod ∷ Touch ∷ Cat ∷ Ls ∷ Tree ∷ Stat ∷ []
+
+-- the statement that a first word names
+abbrev pub verb_of : List ℕ → Option Verb
+verb_of w = find (λ v. bytes_eq w (spelling v)) verbs
+
+-- the first words of statements that aren't built yet
+abbrev pub later_words : List (List ℕ)
+later_words = codes "seed" ∷ codes "grant" ∷ codes "revoke" ∷ codes "pick" ∷ codes "land" ∷ codes "note" ∷ codes "flush" ∷ codes "drain" ∷ codes "pull" ∷ codes "fetch" ∷ codes "status" ∷ codes "settle" ∷ codes "resolve" ∷ codes "fuse" ∷ codes "power" ∷ codes "folder" ∷ codes "verify" ∷ []
+
+-- those of a block, which are no words where a block may not stand
+abbrev pub block_words : List (List ℕ)
+block_words = codes "par" ∷ codes "caller" ∷ codes "flusher" ∷ codes "end" ∷ []
+
+abbrev pub is_later_word : Bool → List ℕ → Bool
+is_later_word live w = list_any (bytes_eq w) (if live then later_words ++ block_words else later_words)
+
+-- what may stand at a place behind the first word
+pub data Want : Type 0 where
+  Number : (low high : ℕ) → Want
+  NewDevice : Want
+  OldDevice : Want
+  AnyPath : Want
+  DataWord : Want
+  OneOf : (choices : List (List ℕ)) → Want
+
+abbrev pub last_u32 : ℕ
+last_u32 = 4294967295
+
+-- the forms of a statement
+abbrev pub forms : Verb → List (List Want)
+forms Device = (NewDevice ∷ Number 4096 16777216 ∷ []) ∷ []
+forms Found = (OldDevice ∷ []) ∷ []
+forms At = (Number 0 last_second ∷ []) ∷ []
+forms Open = (OldDevice ∷ []) ∷ []
+forms Mkdir = (OldDevice ∷ AnyPath ∷ []) ∷ []
+forms Mkfile = (OldDevice ∷ AnyPath ∷ []) ∷ []
+forms Link = (OldDevice ∷ AnyPath ∷ DataWord ∷ []) ∷ []
+forms Remove = (OldDevice ∷ AnyPath ∷ []) ∷ []
+forms Move = (OldDevice ∷ AnyPath ∷ AnyPath ∷ []) ∷ []
+forms Write = (OldDevice ∷ AnyPath ∷ Number 0 last_u32 ∷ DataWord ∷ []) ∷ []
+forms Cut = (OldDevice ∷ AnyPath ∷ Number 0 last_u32 ∷ []) ∷ []
+forms Chmod = (OldDevice ∷ AnyPath ∷ OneOf (codes "x" ∷ codes "-" ∷ []) ∷ []) ∷ []
+forms Touch = (OldDevice ∷ AnyPath ∷ Number 0 last_second ∷ []) ∷ []
+forms Cat = (OldDevice ∷ AnyPath ∷ []) ∷ (OldDevice ∷ AnyPath ∷ Number 0 last_u32 ∷ Number 0 last_u32 ∷ []) ∷ []
+forms Ls = (OldDevice ∷ AnyPath ∷ []) ∷ []
+forms Tree = (OldDevice ∷ []) ∷ []
+forms Stat = (OldDevice ∷ AnyPath ∷ []) ∷ []
+
+-- where a statement may stand: anywhere, once, or behind `found`
+pub data Place : Type 0 where
+  Anywhere : Place
+  Once : Place
+  Behind : Place
+
+abbrev pub place : Verb → Place
+place Device = Anywhere
+place At = Anywhere
+place Found = Once
+place Open = Behind
+place Mkdir = Behind
+place Mkfile = Behind
+place Link = Behind
+place Remove = Behind
+place Move = Behind
+place Write = Behind
+place Cut = Behind
+place Chmod = Behind
+place Touch = Behind
+place Cat = Behind
+place Ls = Behind
+place Tree = Behind
+place Stat = Behind

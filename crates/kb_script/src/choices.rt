@@ -1,0 +1,35 @@
+ghost use Rattle.std.specs.Prelude.{◌≡◌};
+ghost use Rattle.kb_script.specs.Seen.{known};
+ghost use Rattle.kb_script.specs.Choices.{fresh_answer, exec_answer};
+ghost use Rattle.kb_script.specs.Gives.{GivesLine};
+
+use super::faults::{LineFault, Why};
+use super::standing::is_declared;
+use super::state::Seen;
+use kb_name::{DeviceName, NameFault};
+use std::alloc::Global;
+
+/// The name of a device that isn't declared yet.
+pub fn fresh(alloc: Global, seen: &Seen, word: &str) -> Result<DeviceName, LineFault>
+    ensures { GivesLine (λ n. n) result (fresh_answer (known seen.now) word.now) }
+{
+    let name = match DeviceName::new(alloc, word.as_bytes()) {
+        Ok(name) => name,
+        Err(NameFault::BadName) => return Err(LineFault::Bad(Why::Name)),
+        Err(NameFault::Memory) => return Err(LineFault::Memory),
+    };
+    if is_declared(seen, word.as_bytes()) {
+        return Err(LineFault::Bad(Why::Device));
+    }
+    Ok(name)
+}
+
+pub fn is_exec(word: &str) -> Result<bool, LineFault>
+    ensures { GivesLine (λ b. b) result (exec_answer word.now) }
+{
+    match word {
+        "x" => Ok(true),
+        "-" => Ok(false),
+        _ => Err(LineFault::Bad(Why::Choice)),
+    }
+}

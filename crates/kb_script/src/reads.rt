@@ -1,0 +1,208 @@
+//! What the words of a statement say. Each reader goes in the order of the reasons, and allocates last.
+ghost use Rattle.std.specs.Prelude.{◌≡◌, vec_len, IfOk};
+ghost use Rattle.kb_name.specs.Texts.{texts};
+ghost use Rattle.kb_script.specs.Fit.{IsFit};
+ghost use Rattle.kb_script.specs.Seen.{known};
+ghost use Rattle.kb_script.specs.Reasons.{answer};
+ghost use Rattle.kb_script.specs.Gives.{GivesLine};
+
+use super::choices::{fresh, is_exec};
+use super::cuts::{count, word};
+use super::faults::{LineFault, Why};
+use super::standing::{device, in_order};
+use super::state::Seen;
+use super::statements::Statement;
+use super::values::{data, moment, number, small};
+use super::verbs::Verb;
+use kb_ops::{Request, Word};
+use std::alloc::Global;
+
+/// A second device isn't built yet.
+pub fn device_line(alloc: Global, seen: &Seen, words: &[&str]) -> Result<Statement, LineFault>
+    ensures value { GivesLine (λ s. s) result (answer (known seen.now) Verb.Device (texts words.now)) }
+    ensures fit { IfOk result (λ s. IsFit (vec_len seen.now.devices) seen.now.found s) }
+{
+    if !seen.devices.is_empty() {
+        return Err(LineFault::Bad(Why::Later));
+    }
+    if count(words) != 3 {
+        return Err(LineFault::Bad(Why::Count));
+    }
+    let size = number(word(words, 2), 4096, 16_777_216)? as u32;
+    let name = fresh(alloc, seen, word(words, 1))?;
+    in_order(seen, Verb::Device)?;
+    Ok(Statement::Device { name, size })
+}
+
+pub fn found(seen: &Seen, words: &[&str]) -> Result<Statement, LineFault>
+    ensures value { GivesLine (λ s. s) result (answer (known seen.now) Verb.Found (texts words.now)) }
+    ensures fit { IfOk result (λ s. IsFit (vec_len seen.now.devices) seen.now.found s) }
+{
+    if count(words) != 2 {
+        return Err(LineFault::Bad(Why::Count));
+    }
+    let device = device(seen, word(words, 1))?;
+    in_order(seen, Verb::Found)?;
+    Ok(Statement::Found { device })
+}
+
+pub fn at(seen: &Seen, words: &[&str]) -> Result<Statement, LineFault>
+    ensures value { GivesLine (λ s. s) result (answer (known seen.now) Verb.At (texts words.now)) }
+    ensures fit { IfOk result (λ s. IsFit (vec_len seen.now.devices) seen.now.found s) }
+{
+    if count(words) != 2 {
+        return Err(LineFault::Bad(Why::Count));
+    }
+    let moment = moment(word(words, 1))?;
+    in_order(seen, Verb::At)?;
+    Ok(Statement::At { moment })
+}
+
+pub fn open(seen: &Seen, words: &[&str]) -> Result<Statement, LineFault>
+    ensures value { GivesLine (λ s. s) result (answer (known seen.now) Verb.Open (texts words.now)) }
+    ensures fit { IfOk result (λ s. IsFit (vec_len seen.now.devices) seen.now.found s) }
+{
+    if count(words) != 2 {
+        return Err(LineFault::Bad(Why::Count));
+    }
+    let device = device(seen, word(words, 1))?;
+    in_order(seen, Verb::Open)?;
+    Ok(Statement::Open { device })
+}
+
+pub fn mkdir(alloc: Global, seen: &Seen, words: &[&str]) -> Result<Statement, LineFault>
+    ensures value { GivesLine (λ s. s) result (answer (known seen.now) Verb.Mkdir (texts words.now)) }
+    ensures fit { IfOk result (λ s. IsFit (vec_len seen.now.devices) seen.now.found s) }
+{
+    if count(words) != 3 {
+        return Err(LineFault::Bad(Why::Count));
+    }
+    let device = device(seen, word(words, 1))?;
+    in_order(seen, Verb::Mkdir)?;
+    let path = Word::new(alloc, word(words, 2))?;
+    let request = Request::Mkdir { path };
+    Ok(Statement::File { device, request })
+}
+
+pub fn mkfile(alloc: Global, seen: &Seen, words: &[&str]) -> Result<Statement, LineFault>
+    ensures value { GivesLine (λ s. s) result (answer (known seen.now) Verb.Mkfile (texts words.now)) }
+    ensures fit { IfOk result (λ s. IsFit (vec_len seen.now.devices) seen.now.found s) }
+{
+    if count(words) != 3 {
+        return Err(LineFault::Bad(Why::Count));
+    }
+    let device = device(seen, word(words, 1))?;
+    in_order(seen, Verb::Mkfile)?;
+    let path = Word::new(alloc, word(words, 2))?;
+    let request = Request::Mkfile { path };
+    Ok(Statement::File { device, request })
+}
+
+pub fn link(alloc: Global, seen: &Seen, words: &[&str]) -> Result<Statement, LineFault>
+    ensures value { GivesLine (λ s. s) result (answer (known seen.now) Verb.Link (texts words.now)) }
+    ensures fit { IfOk result (λ s. IsFit (vec_len seen.now.devices) seen.now.found s) }
+{
+    if count(words) != 4 {
+        return Err(LineFault::Bad(Why::Count));
+    }
+    let target = data(alloc, word(words, 3))?;
+    let device = device(seen, word(words, 1))?;
+    in_order(seen, Verb::Link)?;
+    let path = Word::new(alloc, word(words, 2))?;
+    let request = Request::Link { path, target };
+    Ok(Statement::File { device, request })
+}
+
+pub fn remove(alloc: Global, seen: &Seen, words: &[&str]) -> Result<Statement, LineFault>
+    ensures value { GivesLine (λ s. s) result (answer (known seen.now) Verb.Remove (texts words.now)) }
+    ensures fit { IfOk result (λ s. IsFit (vec_len seen.now.devices) seen.now.found s) }
+{
+    if count(words) != 3 {
+        return Err(LineFault::Bad(Why::Count));
+    }
+    let device = device(seen, word(words, 1))?;
+    in_order(seen, Verb::Remove)?;
+    let path = Word::new(alloc, word(words, 2))?;
+    let request = Request::Remove { path };
+    Ok(Statement::File { device, request })
+}
+
+pub fn move_line(alloc: Global, seen: &Seen, words: &[&str]) -> Result<Statement, LineFault>
+    ensures value { GivesLine (λ s. s) result (answer (known seen.now) Verb.Move (texts words.now)) }
+    ensures fit { IfOk result (λ s. IsFit (vec_len seen.now.devices) seen.now.found s) }
+{
+    if count(words) != 4 {
+        return Err(LineFault::Bad(Why::Count));
+    }
+    let device = device(seen, word(words, 1))?;
+    in_order(seen, Verb::Move)?;
+    let from = Word::new(alloc, word(words, 2))?;
+    let to = Word::new(alloc, word(words, 3))?;
+    let request = Request::Move { from, to };
+    Ok(Statement::File { device, request })
+}
+
+pub fn write(alloc: Global, seen: &Seen, words: &[&str]) -> Result<Statement, LineFault>
+    ensures value { GivesLine (λ s. s) result (answer (known seen.now) Verb.Write (texts words.now)) }
+    ensures fit { IfOk result (λ s. IsFit (vec_len seen.now.devices) seen.now.found s) }
+{
+    if count(words) != 5 {
+        return Err(LineFault::Bad(Why::Count));
+    }
+    let offset = small(word(words, 3))?;
+    let bytes = data(alloc, word(words, 4))?;
+    let device = device(seen, word(words, 1))?;
+    in_order(seen, Verb::Write)?;
+    let path = Word::new(alloc, word(words, 2))?;
+    let request = Request::Write {
+        path,
+        offset,
+        bytes,
+    };
+    Ok(Statement::File { device, request })
+}
+
+pub fn cut(alloc: Global, seen: &Seen, words: &[&str]) -> Result<Statement, LineFault>
+    ensures value { GivesLine (λ s. s) result (answer (known seen.now) Verb.Cut (texts words.now)) }
+    ensures fit { IfOk result (λ s. IsFit (vec_len seen.now.devices) seen.now.found s) }
+{
+    if count(words) != 4 {
+        return Err(LineFault::Bad(Why::Count));
+    }
+    let length = small(word(words, 3))?;
+    let device = device(seen, word(words, 1))?;
+    in_order(seen, Verb::Cut)?;
+    let path = Word::new(alloc, word(words, 2))?;
+    let request = Request::Cut { path, length };
+    Ok(Statement::File { device, request })
+}
+
+pub fn chmod(alloc: Global, seen: &Seen, words: &[&str]) -> Result<Statement, LineFault>
+    ensures value { GivesLine (λ s. s) result (answer (known seen.now) Verb.Chmod (texts words.now)) }
+    ensures fit { IfOk result (λ s. IsFit (vec_len seen.now.devices) seen.now.found s) }
+{
+    if count(words) != 4 {
+        return Err(LineFault::Bad(Why::Count));
+    }
+    let on = is_exec(word(words, 3))?;
+    let device = device(seen, word(words, 1))?;
+    in_order(seen, Verb::Chmod)?;
+    let path = Word::new(alloc, word(words, 2))?;
+    let request = Request::Exec { path, on };
+    Ok(Statement::File { device, request })
+}
+
+pub fn touch(alloc: Global, seen: &Seen, words: &[&str]) -> Result<Statement, LineFault>
+    ensures value { GivesLine (λ s. s) result (answer (known seen.now) Verb.Touch (texts words.now)) }
+    ensures fit { IfOk result (λ s. IsFit (vec_len seen.now.devices) seen.now.found s) }
+{
+    if count(words) != 4 {
+        return Err(LineFault::Bad(Why::Count));
+    }
+    let mtime = moment(word(words, 3))?;
+    let device = device(seen, word(words, 1))?;
+    in_order(seen, Verb::Touch)?;
+    let path = Word::new(alloc, word(words, 2))?;
+    let request = Request::Touch { path, mtime };
+    Ok(Statement::File { device, request })
+}

@@ -1,0 +1,78 @@
+use super::{ScriptFault, Statement, Why, parse};
+use std::alloc::Global;
+use std::test::Fail;
+
+/// The number of statements, or the first bad line and why.
+fn read(alloc: Global, script: &str, live: bool) -> Result<(usize, Option<Why>), Fail> {
+    match parse(alloc, script.as_bytes(), live) {
+        Ok(statements) => Ok((statements.len(), None)),
+        Err(ScriptFault::BadLine { line, why }) => Ok((line as usize, Some(why))),
+        Err(_) => Err(Fail::from("neither a script nor a bad line")),
+    }
+}
+
+#[test]
+fn scripts(rt: HostRuntime) -> Result<(), Fail> {
+    let alloc = rt.alloc();
+    let whole =
+        "# one\r\ndevice laptop 65536\r\n\nfound laptop\n mkdir  laptop /a \nwrite laptop /a/f 0 =l%41%\nchmod laptop /a/f x\nat 253402300799\ncat laptop /a 0 9\ncut laptop /a/f 4294967295";
+    assert_eq!(rt; read(alloc, whole, false)?, (8, None));
+    assert_eq!(rt; read(alloc, "", false)?, (0, None));
+    let row = "device laptop 65536\nfound laptop\nmkdir laptop\n";
+    assert_eq!(rt; read(alloc, row, false)?, (3, Some(Why::Count)));
+    Ok(())
+}
+
+#[test]
+fn words(rt: HostRuntime) -> Result<(), Fail> {
+    let alloc = rt.alloc();
+    assert_eq!(rt; read(alloc, "\nmk d", false)?, (2, Some(Why::Word)));
+    assert_eq!(rt; read(alloc, "par", false)?, (1, Some(Why::Word)));
+    assert_eq!(rt; read(alloc, "par", true)?, (1, Some(Why::Later)));
+    assert_eq!(rt; read(alloc, "flush", false)?, (1, Some(Why::Later)));
+    let second = "device a 4096\ndevice A";
+    assert_eq!(rt; read(alloc, second, false)?, (2, Some(Why::Later)));
+    Ok(())
+}
+
+#[test]
+fn reasons(rt: HostRuntime) -> Result<(), Fail> {
+    let alloc = rt.alloc();
+    assert_eq!(rt;
+        read(alloc, "device B 04096", false)?,
+        (1, Some(Why::Number))
+    );
+    assert_eq!(rt; read(alloc, "device B 4096", false)?, (1, Some(Why::Name)));
+    assert_eq!(rt;
+        read(alloc, "write a / 1 x", false)?,
+        (1, Some(Why::Choice))
+    );
+    assert_eq!(rt; read(alloc, "mkdir a /", false)?, (1, Some(Why::Device)));
+    let early = "device a 4096\nmkdir a /";
+    assert_eq!(rt; read(alloc, early, false)?, (2, Some(Why::Order)));
+    let returned = "device a 4096\nfound a\r";
+    assert_eq!(rt; read(alloc, returned, false)?, (2, Some(Why::Device)));
+    Ok(())
+}
+
+#[test]
+fn texts(rt: HostRuntime) -> Result<(), Fail> {
+    let alloc = rt.alloc();
+    let bad = parse(alloc, b"at 5\n#\xff\n", false);
+    assert!(rt;
+        matches!(
+            bad,
+            Err(ScriptFault::BadLine {
+                line: 2,
+                why: Why::Text
+            })
+        )
+    );
+    let statements = match parse(alloc, b"at 5\n", false) {
+        Ok(statements) => statements,
+        Err(_) => return Err(Fail::from("no script")),
+    };
+    assert_eq!(rt; statements.len(), 1);
+    assert!(rt; matches!(&statements[0], Statement::At { moment } if moment.seconds() == 5));
+    Ok(())
+}
