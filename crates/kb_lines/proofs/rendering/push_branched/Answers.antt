@@ -1,0 +1,5 @@
+use Rattle.std.proofs.Common.{append_assoc}
+use Rattle.kb_lines.proofs.rendering.push_branched.Goals as goal
+
+pub returns : goal.returns
+returns c = simp append_assoc (rw (c.escaped.ensures, c.bytes.ensures.value) at c.writeln.ensures.bytes)

@@ -1,0 +1,14 @@
+//! The lines that are printed.
+#![tactic(auto)]
+
+mod lines;
+mod pieces;
+mod reasons;
+mod rendering;
+mod rows;
+#[cfg(test)]
+mod tests;
+
+pub use lines::{Did, Line};
+pub use reasons::Reason;
+pub use rendering::render;

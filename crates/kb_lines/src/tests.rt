@@ -1,0 +1,242 @@
+use super::{Did, Line, Reason, render};
+use kb_name::{DeviceName, Moment, Name, NodeId};
+use kb_ops::{Bytes, Kind, Names, Placed, PlacedRows, Row, Rows};
+use std::alloc::Global;
+use std::test::Fail;
+
+fn laptop(alloc: Global) -> Result<DeviceName, Fail> {
+    match DeviceName::new(alloc, b"laptop") {
+        Ok(device) => Ok(device),
+        Err(_) => Err(Fail::from("no device")),
+    }
+}
+
+fn name(alloc: Global, text: &str) -> Result<Name, Fail> {
+    match Name::new(alloc, text.as_bytes()) {
+        Ok(name) => Ok(name),
+        Err(_) => Err(Fail::from("no name")),
+    }
+}
+
+fn row(alloc: Global, text: &str, kind: Kind, bytes: &str, exec: bool) -> Result<Row, Fail> {
+    Ok(Row {
+        id: NodeId {
+            device: 1,
+            seq: 7,
+            part: 0,
+        },
+        parent: NodeId::ROOT,
+        name: name(alloc, text)?,
+        kind,
+        bytes: Bytes::new(Vec::from_slice(alloc, bytes.as_bytes())?),
+        exec,
+        mtime: Moment::START,
+    })
+}
+
+/// Whether the line is printed as this text.
+fn is_shown(alloc: Global, line: Line, text: &str) -> Result<bool, Fail> {
+    let lines = vec![in alloc; line]?;
+    match render(alloc, &lines) {
+        Ok(bytes) => Ok(bytes.as_slice() == text.as_bytes()),
+        Err(_) => Err(Fail::from("no memory")),
+    }
+}
+
+#[test]
+fn replies(rt: HostRuntime) -> Result<(), Fail> {
+    let alloc = rt.alloc();
+    let line = Line::FolderAt { revision: 1 };
+    assert!(rt; is_shown(alloc, line, "folder: at 1\n")?);
+    let device = laptop(alloc)?;
+    let line = Line::Done { device, seq: 12 };
+    assert!(rt; is_shown(alloc, line, "laptop: done 12\n")?);
+    let device = laptop(alloc)?;
+    assert!(rt; is_shown(alloc, Line::Same { device }, "laptop: same\n")?);
+    let line = Line::Opened {
+        device: laptop(alloc)?,
+        at: 1,
+        queue: 0,
+        last: 4294967295,
+    };
+    let text = "laptop: open at 1 queue 0 last 4294967295\n";
+    assert!(rt; is_shown(alloc, line, text)?);
+    let bytes = Bytes::new(Vec::from_slice(alloc, b"\x00 a%b/\x7f\xff")?);
+    let device = laptop(alloc)?;
+    let line = Line::Cat { device, bytes };
+    assert!(rt; is_shown(alloc, line, "laptop: =%00%20a%25b/%7F%FF\n")?);
+    Ok(())
+}
+
+#[test]
+fn rows(rt: HostRuntime) -> Result<(), Fail> {
+    let alloc = rt.alloc();
+    let dir = row(alloc, "a b", Kind::Dir, "", false)?;
+    let file = row(alloc, "f", Kind::File, "xyz", true)?;
+    let link = row(alloc, "l", Kind::Link, "/a b", false)?;
+    let rows = Rows::new(vec![in alloc; dir, file, link]?);
+    let device = laptop(alloc)?;
+    let text = "laptop: ls 3\nd a%20b 0\nf f 3 x 0\nl l =/a%20b 0\n";
+    assert!(rt; is_shown(alloc, Line::Ls { device, rows }, text)?);
+    let row = row(alloc, "f", Kind::File, "xyz", false)?;
+    let names = Names::new(vec![in alloc; name(alloc, "a b")?, name(alloc, "f")?]?);
+    let rows = PlacedRows::new(vec![in alloc; Placed { names, row }]?);
+    let line = Line::Tree {
+        device: laptop(alloc)?,
+        at: 1,
+        queue: 2,
+        rows,
+    };
+    let text = "laptop: tree at 1 queue 2 rows 2\nf /a%20b/f 3 - 0\n";
+    assert!(rt; is_shown(alloc, line, text)?);
+    Ok(())
+}
+
+#[test]
+fn stats(rt: HostRuntime) -> Result<(), Fail> {
+    let alloc = rt.alloc();
+    let row = row(alloc, "f", Kind::File, "xyz", false)?;
+    let device = laptop(alloc)?;
+    let text = "laptop: stat f 1.7.0 size 3 exec - mtime 0\n";
+    assert!(rt; is_shown(alloc, Line::Stat { device, row }, text)?);
+    Ok(())
+}
+
+#[test]
+fn refusals(rt: HostRuntime) -> Result<(), Fail> {
+    let alloc = rt.alloc();
+    let reason = Reason::NotWriter;
+    let line = Line::FolderRefused { reason };
+    assert!(rt; is_shown(alloc, line, "folder: refused NotWriter\n")?);
+    let line = Line::Refused {
+        device: laptop(alloc)?,
+        reason: Reason::Full {
+            need: 2041,
+            room: 2040,
+        },
+    };
+    assert!(rt; is_shown(alloc, line, "laptop: refused Full 2041 2040\n")?);
+    let line = Line::Refused {
+        device: laptop(alloc)?,
+        reason: Reason::Stale { length: 4 },
+    };
+    assert!(rt; is_shown(alloc, line, "laptop: refused Stale 4\n")?);
+    let line = Line::Refused {
+        device: laptop(alloc)?,
+        reason: Reason::Collision { id: [0xab; 32] },
+    };
+    let text =
+        "laptop: refused Collision abababababababababababababababababababababababababababababababab\n";
+    assert!(rt; is_shown(alloc, line, text)?);
+    Ok(())
+}
+
+#[test]
+fn flights(rt: HostRuntime) -> Result<(), Fail> {
+    let alloc = rt.alloc();
+    let line = Line::Picked {
+        device: laptop(alloc)?,
+        seq: 1,
+        revision: 2,
+    };
+    assert!(rt; is_shown(alloc, line, "laptop: picked 1 as 2\n")?);
+    let revision = 2;
+    let device = laptop(alloc)?;
+    let line = Line::Landed { device, revision };
+    assert!(rt; is_shown(alloc, line, "laptop: landed 2\n")?);
+    let device = laptop(alloc)?;
+    let line = Line::Noted { device, revision };
+    assert!(rt; is_shown(alloc, line, "laptop: noted 2\n")?);
+    let device = laptop(alloc)?;
+    let line = Line::BranchedAt { device, revision };
+    assert!(rt; is_shown(alloc, line, "laptop: branched at 2\n")?);
+    let device = laptop(alloc)?;
+    assert!(rt; is_shown(alloc, Line::Kept { device }, "laptop: kept\n")?);
+    Ok(())
+}
+
+#[test]
+fn branches(rt: HostRuntime) -> Result<(), Fail> {
+    let alloc = rt.alloc();
+    let revision = 5;
+    let device = laptop(alloc)?;
+    assert!(rt; is_shown(alloc, Line::At { device, revision }, "laptop: at 5\n")?);
+    let device = laptop(alloc)?;
+    let line = Line::Fetched { device, revision };
+    assert!(rt; is_shown(alloc, line, "laptop: fetched 5\n")?);
+    let line = Line::Merged {
+        device: laptop(alloc)?,
+        revision,
+        copies: 1,
+        renamed: 2,
+        joined: 3,
+    };
+    let text = "laptop: merged 5 copies 1 renamed 2 joined 3\n";
+    assert!(rt; is_shown(alloc, line, text)?);
+    let line = Line::Status {
+        device: laptop(alloc)?,
+        at: 2,
+        queue: 1,
+        last: 3,
+        branched: false,
+        flight: false,
+    };
+    let text = "laptop: status at 2 queue 1 last 3 merged idle\n";
+    assert!(rt; is_shown(alloc, line, text)?);
+    let device = laptop(alloc)?;
+    assert!(rt; is_shown(alloc, Line::Off { device }, "laptop: off\n")?);
+    Ok(())
+}
+
+#[test]
+fn chains(rt: HostRuntime) -> Result<(), Fail> {
+    let alloc = rt.alloc();
+    let line = Line::Chain {
+        revisions: 3,
+        generation: 2,
+    };
+    let text = "folder: 3 revisions generation 2\n";
+    assert!(rt; is_shown(alloc, line, text)?);
+    let line = Line::Whole { revisions: 3 };
+    assert!(rt; is_shown(alloc, line, "folder: whole 3\n")?);
+    let device = laptop(alloc)?;
+    let did = Did::Found { device };
+    let line = Line::Revision { number: 1, did };
+    assert!(rt; is_shown(alloc, line, "1 found laptop\n")?);
+    let device = laptop(alloc)?;
+    let did = Did::Step { device, seq: 4 };
+    let line = Line::Revision { number: 2, did };
+    assert!(rt; is_shown(alloc, line, "2 step laptop 4\n")?);
+    let did = Did::Merge {
+        device: laptop(alloc)?,
+        first: 5,
+        last: 6,
+    };
+    let line = Line::Revision { number: 3, did };
+    assert!(rt; is_shown(alloc, line, "3 merge laptop 5 6\n")?);
+    Ok(())
+}
+
+#[test]
+fn rekeys(rt: HostRuntime) -> Result<(), Fail> {
+    let alloc = rt.alloc();
+    let did = Did::GrantWriter {
+        by: laptop(alloc)?,
+        device: laptop(alloc)?,
+    };
+    let line = Line::Revision { number: 1, did };
+    assert!(rt; is_shown(alloc, line, "1 grant laptop laptop writer\n")?);
+    let did = Did::GrantReader {
+        by: laptop(alloc)?,
+        device: laptop(alloc)?,
+    };
+    let line = Line::Revision { number: 2, did };
+    assert!(rt; is_shown(alloc, line, "2 grant laptop laptop reader\n")?);
+    let did = Did::Revoke {
+        by: laptop(alloc)?,
+        device: laptop(alloc)?,
+    };
+    let line = Line::Revision { number: 3, did };
+    assert!(rt; is_shown(alloc, line, "3 revoke laptop laptop\n")?);
+    Ok(())
+}
