@@ -1,0 +1,5 @@
+pub mod Ids
+pub mod Moves
+pub mod OwnedKept
+pub mod Longer
+pub mod Calls
