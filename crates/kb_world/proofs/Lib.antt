@@ -1,0 +1,4 @@
+pub mod Members
+pub mod StatementParts
+pub mod OwnedRuns
+pub mod Acts

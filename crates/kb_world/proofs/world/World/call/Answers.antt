@@ -1,0 +1,27 @@
+use Rattle.std.proofs.Common.{◌≡◌, ◌-◌, ◌<◌, Some, length, refl, ap, ◌∙◌, arith}
+use Rattle.std.specs.Prelude.{slice_get}
+use Rattle.std.proofs.lemmas.Option.{slice_get_read}
+use Rattle.kb_world.specs.Replies.{called_lines}
+use Rattle.kb_device.proofs.Calls.{answered}
+use Rattle.kb_world.proofs.Members.{on_err}
+use Rattle.kb_world.proofs.Acts.{calls_device, stays_device}
+use Rattle.kb_world.proofs.world.World.call.Goals as goal
+
+pub returns-clause-step : goal.returns-clause-step
+returns-clause-step c =
+    let w = c.args.self.now in
+    let device = c.index_mut-device.result.now in
+    let within : c.args.number - 1 < length w.devices.items = (let low = c.requires.0 in let high = c.requires.1 in omega arith) in
+    let found : slice_get w.devices.items (c.args.number - 1) ≡ Some device = slice_get_read w.devices.items (length w.devices.items) (c.args.number - 1) device refl within c.index_mut-device.ensures.value in
+    let named = c.in_ok-name.ensures.cases ∙ c.name.ensures in
+    let lines = c.in_ok-lines.ensures.lines ∙ ap (λ n. called_lines n c.call-answer.result) named in
+    let step = answered c.call-answer.result _ c.call-answer.ensures.step c.in_ok-lines.ensures.answer in
+    calls_device w _ c.args.number device c.call-answer.new.self c.requires.0 found refl refl refl c.call-answer.ensures.number c.call-answer.ensures.name c.args.request.now c.call-answer.result c.in_ok-lines.lines.items lines step
+
+pub returns-in_err-lines-clause-memory : goal.returns-in_err-lines-clause-memory
+returns-in_err-lines-clause-memory c =
+    let w = c.args.self.now in
+    let device = c.index_mut-device.result.now in
+    let within : c.args.number - 1 < length w.devices.items = (let low = c.requires.0 in let high = c.requires.1 in omega arith) in
+    let found : slice_get w.devices.items (c.args.number - 1) ≡ Some device = slice_get_read w.devices.items (length w.devices.items) (c.args.number - 1) device refl within c.index_mut-device.ensures.value in
+    on_err c.from_residual-in_err-lines.result (stays_device w _ c.args.number device c.call-answer.new.self c.requires.0 found refl refl refl c.call-answer.ensures.number c.call-answer.ensures.name (c.call-answer.ensures.memory c.in_err-lines.ensures.memory))

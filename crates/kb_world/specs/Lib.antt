@@ -1,0 +1,4 @@
+pub mod Replies
+pub mod Machine
+pub mod Owned
+pub mod Stands

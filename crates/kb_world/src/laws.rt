@@ -1,0 +1,8 @@
+//! What holds of every run of the plain machine.
+ghost use Rattle.kb_world.specs.Owned.{RunsAreOwned};
+
+/// Whatever statements run, each device's acknowledged operations stand once and in order in the chain and then in its
+/// journal.
+pub fn runs_are_owned()
+    ensures { RunsAreOwned }
+{}
