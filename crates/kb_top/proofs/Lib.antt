@@ -1,0 +1,3 @@
+pub mod InputsRead
+pub mod Runs
+pub mod Ends

@@ -1,0 +1,115 @@
+-- What a top call leaves, at each status.
+use Rattle.std.specs.Prelude.{◌≡◌, ◌⊎◌, ℕ, false, List, [], ◌∷◌, ◌++◌, take, Option, Some, slice_get, codes, map, string_bytes}
+use Rattle.std.specs.declared.string.String.{String}
+use Rattle.std.specs.Io.KnownBytes.{Appends}
+use Rattle.kb_edge.specs.Causes.{Rose}
+use Rattle.kb_script.specs.declared.statements.Statement.{Statement}
+use Rattle.kb_script.specs.declared.faults.ScriptFault.{ScriptFault}
+use Rattle.kb_script.specs.Scripts.{IsScript}
+use Rattle.kb_lines.specs.declared.lines.Line.{Line}
+use Rattle.kb_lines.specs.LineTexts.{text_of_all}
+use Rattle.kb_world.specs.Machine.{State, new_state, Run, Steps, Begins}
+use Rattle.kb_world.specs.Owned.{AllOwned}
+use Rattle.kb_top.specs.Inputs.{IsInput, HasFault, fault_text, TellsScript, TellsNoScript}
+use Rattle.kb_top.specs.declared.status.Status.{Status}
+use Rattle.kb_top.specs.declared.status.Status.TheVariants.{Done, Usage, Script, ReadFault, WriteFault, Memory}
+
+-- what is put where the words ask for nothing
+abbrev pub usage_text : List ℕ
+usage_text = codes "usage: kbfolder run | live | gen N" ++ 10 ∷ []
+
+-- how a call ends that only tells that the bytes are no script
+abbrev pub IsTold : Option (List ℕ) → Option (List ℕ) → List ℕ → Status → Type 0
+IsTold before now text Script = Appends before now text
+IsTold before now text WriteFault = (put : ℕ) × Appends before now (take put text)
+IsTold before now text Memory = Appends before now []
+IsTold before now text _ = ⊥
+
+-- the bytes of the lines of statements, one after another
+abbrev pub text_of_each : List (List Line) → List ℕ
+text_of_each [] = []
+text_of_each (lines ∷ more) = text_of_all lines ++ text_of_each more
+
+module _ {W : Type 0} (stands : W → State → Type 0) (world : W) (before now : Option (List ℕ)) where
+  -- these statements ran, the world stands for the run's last state, and the bytes written are its lines
+  pub record Ran (statements : List Statement) : Type 0 where
+    pub each : List (List Line)
+    pub state : State
+    pub run : Run new_state statements each state
+    pub stands_for : stands world state
+    pub owned : AllOwned state
+    pub bytes : Appends before now (text_of_each each)
+
+  -- the first statements ran, and put their lines; the next one began, and want of memory ended it or its text
+  pub record Ended (statements : List Statement) : Type 0 where
+    pub count : ℕ
+    pub statement : Statement
+    pub next : slice_get statements count ≡ Some statement
+    pub each : List (List Line)
+    pub middle : State
+    pub run : Run new_state (take count statements) each middle
+    pub state : State
+    pub began : Begins middle statement state
+    pub stands_for : stands world state
+    pub owned : AllOwned state
+    pub bytes : Appends before now (text_of_each each)
+
+  -- the first statements ran, and put their lines; the next one ran, and put a beginning of its lines
+  pub record Cut (statements : List Statement) : Type 0 where
+    pub count : ℕ
+    pub statement : Statement
+    pub next : slice_get statements count ≡ Some statement
+    pub each : List (List Line)
+    pub middle : State
+    pub run : Run new_state (take count statements) each middle
+    pub lines : List Line
+    pub state : State
+    pub step : Steps middle statement lines state
+    pub stands_for : stands world state
+    pub owned : AllOwned state
+    pub put : ℕ
+    pub bytes : Appends before now (text_of_each each ++ take put (text_of_all lines))
+
+  -- nothing ran, and these bytes were written
+  pub record NothingRan (written : List ℕ) : Type 0 where
+    pub stands_for : stands world new_state
+    pub bytes : Appends before now written
+
+  -- how a run over statements ends
+  abbrev pub RunsTo : List Statement → Status → Type 0
+  RunsTo statements Done = Ran statements
+  RunsTo statements Memory = Ended statements
+  RunsTo statements WriteFault = Cut statements
+  RunsTo statements _ = ⊥
+
+  -- the source's bytes are a script, and its statements have this
+  abbrev pub OfScript : Option (List ℕ) → (List Statement → Type 0) → Type 0
+  OfScript source P = (bytes : List ℕ) × (statements : List Statement) × IsInput source bytes × IsScript false bytes statements × P statements
+
+  -- the source's bytes are no script, and the text that says so has this
+  abbrev pub OfNoScript : Option (List ℕ) → (List ℕ → Type 0) → Type 0
+  OfNoScript source P = (bytes : List ℕ) × (fault : ScriptFault) × IsInput source bytes × HasFault bytes fault × P (fault_text fault)
+
+  -- how a call that reads a script and runs it ends
+  abbrev pub Headline : Option (List ℕ) → Status → Type 0
+  Headline source Done = OfScript source Ran
+  Headline source Memory = NothingRan [] ⊎ OfScript source Ended
+  Headline source WriteFault = OfNoScript source (λ text. (put : ℕ) × NothingRan (take put text)) ⊎ OfScript source Cut
+  Headline source Script = OfNoScript source NothingRan
+  Headline source ReadFault = NothingRan []
+  Headline source Usage = ⊥
+
+  -- how a call ends whose words ask for nothing
+  abbrev pub UsageEnd : Status → Type 0
+  UsageEnd Usage = NothingRan usage_text
+  UsageEnd WriteFault = (put : ℕ) × NothingRan (take put usage_text)
+  UsageEnd _ = ⊥
+
+-- Where no count rises, a script is run to its end, and what is none is told, unless memory runs out.
+pub record IsComplete (source : Option (List ℕ)) (read_before read_now put_before put_now : ℕ) (status : Status) : Type 0 where
+  pub runs : ¬ Rose read_before read_now → ¬ Rose put_before put_now → TellsScript source → (status ≡ Done) ⊎ (status ≡ Memory)
+  pub tells : ¬ Rose read_before read_now → ¬ Rose put_before put_now → TellsNoScript source → (status ≡ Script) ⊎ (status ≡ Memory)
+
+-- the words are the one word run
+abbrev pub IsRun : {A : Type 0} → List (String A) → Type 0
+IsRun words = map string_bytes words ≡ codes "run" ∷ []

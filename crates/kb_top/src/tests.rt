@@ -1,0 +1,116 @@
+//! Whole runs over ends in memory.
+use crate::{Status, run_script, run_words};
+use kb_edge::{MemSink, MemSource};
+use kb_world::World;
+use std::alloc::Global;
+use std::test::Fail;
+
+const FIRST: &str =
+    "device laptop 65536\nfound laptop\nopen laptop\nmkdir laptop /a\nmkfile laptop /a/f\nls laptop /\ntree laptop\n";
+
+const FIRST_TEXT: &str =
+    "folder: at 1\nlaptop: open at 1 queue 0 last 0\nlaptop: done 1\nlaptop: done 2\nlaptop: ls 1\nd a 0\nlaptop: tree at 1 queue 2 rows 3\nd /a 0\nf /a/f 0 - 0\n";
+
+const USAGE: &str = "usage: kbfolder run | live | gen N\n";
+
+fn source(alloc: Global, text: &str) -> Result<MemSource, Fail> {
+    let bytes = text.as_bytes().to_vec(alloc)?;
+    Ok(MemSource::new(bytes, 7, Vec::new(alloc)))
+}
+
+fn sink(alloc: Global) -> Result<MemSink, Fail> {
+    match MemSink::new(alloc, 65_536, Vec::new(alloc)) {
+        Ok(sink) => Ok(sink),
+        Err(_) => Err(Fail::from("no memory for a sink")),
+    }
+}
+
+// How a script ends, and whether its text is this.
+fn ends(alloc: Global, script: &str, status: Status, text: &str) -> Result<bool, Fail> {
+    let mut source = source(alloc, script)?;
+    let mut sink = sink(alloc)?;
+    let mut world = World::new(alloc);
+    let ended = run_script(alloc, &mut source, &mut sink, &mut world);
+    Ok(ended == status && sink.bytes() == text.as_bytes())
+}
+
+#[test]
+fn a_script_runs(rt: HostRuntime) -> Result<(), Fail> {
+    assert!(rt; ends(rt.alloc(), FIRST, Status::Done, FIRST_TEXT)?);
+    assert!(rt; ends(rt.alloc(), "", Status::Done, "")?);
+    Ok(())
+}
+
+#[test]
+fn no_script_runs(rt: HostRuntime) -> Result<(), Fail> {
+    let count = "device laptop 65536\nfound laptop\nmkdir laptop\n";
+    assert!(rt; ends(rt.alloc(), count, Status::Script, "line 3: Count\n")?);
+    assert!(rt;
+        ends(
+            rt.alloc(),
+            "# one\n\nseed x",
+            Status::Script,
+            "line 3: Later\n"
+        )?
+    );
+    Ok(())
+}
+
+#[test]
+fn too_much_is_told(rt: HostRuntime) -> Result<(), Fail> {
+    let alloc = rt.alloc();
+    let bytes = vec![in alloc; b'\n'; 1_048_577]?;
+    let mut source = MemSource::new(bytes, 65_536, Vec::new(alloc));
+    let mut sink = sink(alloc)?;
+    let mut world = World::new(alloc);
+    let ended = run_script(alloc, &mut source, &mut sink, &mut world);
+    assert_eq!(rt; ended, Status::Script);
+    assert_eq!(rt; sink.bytes(), b"script too long\n".as_slice());
+    Ok(())
+}
+
+#[test]
+fn a_source_fails(rt: HostRuntime) -> Result<(), Fail> {
+    let alloc = rt.alloc();
+    let bytes = FIRST.as_bytes().to_vec(alloc)?;
+    let mut source = MemSource::new(bytes, 7, [1].to_vec(alloc)?);
+    let mut sink = sink(alloc)?;
+    let mut world = World::new(alloc);
+    let ended = run_script(alloc, &mut source, &mut sink, &mut world);
+    assert_eq!(rt; ended.code(), 4);
+    assert!(rt; sink.bytes().is_empty());
+    Ok(())
+}
+
+#[test]
+fn a_sink_fails(rt: HostRuntime) -> Result<(), Fail> {
+    let alloc = rt.alloc();
+    let mut source = source(alloc, FIRST)?;
+    let mut sink = match MemSink::new(alloc, 65_536, [1].to_vec(alloc)?) {
+        Ok(sink) => sink,
+        Err(_) => return Err(Fail::from("no memory for a sink")),
+    };
+    let mut world = World::new(alloc);
+    let ended = run_script(alloc, &mut source, &mut sink, &mut world);
+    assert_eq!(rt; ended.code(), 5);
+    assert!(rt; sink.bytes().is_empty());
+    Ok(())
+}
+
+#[test]
+fn words_choose(rt: HostRuntime) -> Result<(), Fail> {
+    let alloc = rt.alloc();
+    let mut source = source(alloc, FIRST)?;
+    let mut sink = sink(alloc)?;
+    let mut world = World::new(alloc);
+    let other = vec![in alloc; String::from_str(alloc, "runn")?]?;
+    let ended = run_words(alloc, &other, &mut source, &mut sink, &mut world);
+    assert_eq!(rt; ended.code(), 2);
+    assert_eq!(rt; sink.bytes(), USAGE.as_bytes());
+    assert!(rt; world.is_new());
+    let run = vec![in alloc; String::from_str(alloc, "run")?]?;
+    let ended = run_words(alloc, &run, &mut source, &mut sink, &mut world);
+    assert_eq!(rt; ended.code(), 0);
+    assert_eq!(rt; sink.bytes().len(), USAGE.len() + FIRST_TEXT.len());
+    Ok(())
+}
