@@ -1,0 +1,5 @@
+pub mod Keeping
+pub mod Lists
+pub mod Meets
+pub mod Weights
+pub mod Whole
