@@ -1,0 +1,3 @@
+pub mod Entries
+pub mod FirstByte
+pub mod Stores
