@@ -106,7 +106,7 @@ pub record IsChild (t : Tree) (parent : NodeId) (r : Row) : Type 0 where
   pub not_root : r.id ≢ root
   pub parent_is : r.parent ≡ parent
 
-abbrev named_rows : List Row → List (List ℕ × Row)
+abbrev pub named_rows : List Row → List (List ℕ × Row)
 named_rows rows = map (λ (r : Row). (r.name, r)) rows
 
 filtered : (t : Tree) (parent : NodeId) (rows : List Row) → AllByRecursion (IsRow t) rows → AllByRecursion (λ (e : List ℕ × Row). IsChild t parent e.1) (named_rows (filter (is_child_of parent) rows))
@@ -135,7 +135,7 @@ children_stand t w parent = values_stand (finite.entries m) (entries_found (slic
 -- ---- a table's list of their ids
 
 -- the child of a name among the rows with the parent
-stands-named : (parent : NodeId) (name : List ℕ) (rows : List Row) → entries.find (slice_cmp nat_cmp) name (named_rows (filter (is_child_of parent) rows)) ≡ find (stands_at parent name) rows
+pub stands-named : (parent : NodeId) (name : List ℕ) (rows : List Row) → entries.find (slice_cmp nat_cmp) name (named_rows (filter (is_child_of parent) rows)) ≡ find (stands_at parent name) rows
 stands-named parent name [] = refl
 stands-named parent name (r ∷ rows) =
     let tie : eq_by_cmp (slice_cmp nat_cmp) name r.name ≡ bytes_eq r.name name = is_eq-slice_cmp name r.name ∙ same_from_decides (bytes_eq name r.name) (bytes_eq r.name name) (bytes_eq-Decides name r.name) (Decides-like (bytes_eq r.name name) (λ e. sym e) (λ e. sym e) (bytes_eq-Decides r.name name)) in

@@ -1,4 +1,5 @@
 pub mod Patching
-pub mod Laws
+pub mod Preparing
 pub mod Children
 pub mod Listing
+pub mod Listed

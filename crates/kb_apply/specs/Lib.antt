@@ -3,3 +3,4 @@ pub mod Prepared
 pub mod Children
 pub mod Shows
 pub mod Waiting
+pub mod Laws

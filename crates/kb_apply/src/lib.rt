@@ -2,10 +2,12 @@
 #![tactic(auto)]
 
 mod doing;
+mod laws;
 mod plans;
 mod shows;
 
 pub use doing::{Prepared, apply, prepare};
+pub use laws::{listed_law, placed_law};
 pub use plans::plan;
 pub use shows::{ShowFault, show};
 

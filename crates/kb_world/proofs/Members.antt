@@ -54,3 +54,12 @@ members_longer c more n (d ∷ devices) (m ∷ members) h = (
 )
 members_longer c more n [] (m ∷ members) h = absurd h
 members_longer c more n (d ∷ devices) [] h = absurd h
+
+-- no devices stand for no members, and for nothing else
+pub none_stand : (c : Chain) (n : ℕ) (devices : List Device) → length devices ≡ 0 → MembersStand c n devices []
+none_stand c n [] e = tt
+none_stand c n (device ∷ devices) e = absurd (omega (arith, e))
+
+pub none_there : (c : Chain) (n : ℕ) (devices : List Device) → MembersStand c n devices [] → length devices ≡ 0
+none_there c n [] h = refl
+none_there c n (device ∷ devices) h = absurd h

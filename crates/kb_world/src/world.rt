@@ -1,5 +1,5 @@
 //! The world of a run: a folder, its devices, and the moment.
-ghost use Rattle.std.specs.Prelude.{◌≡◌, ◌+◌, ◌<◌, ◌≤◌, List, IfOk, OnOk, OnErr, true};
+ghost use Rattle.std.specs.Prelude.{◌≡◌, ◌↔◌, ◌+◌, ◌<◌, ◌≤◌, List, IfOk, OnOk, OnErr, IsTrue, true};
 ghost use Rattle.kb_edge.specs.Goes.{Goes, Stays};
 ghost use Rattle.kb_script.specs.Fit.{IsFit, declared_after, found_after, IsDeclared};
 ghost use Rattle.kb_world.specs.Machine.{State, new_state, ActStep, Declare, Found, SetMoment, Open, Call, Look, Steps};
@@ -38,9 +38,12 @@ impl World {
 
     /// Whether nothing has been done yet.
     pub fn is_new(&self) -> bool
-        ensures { result ≡ true → WorldStands self.now new_state }
+        ensures { IsTrue result ↔ WorldStands self.now new_state }
     {
-        self.moment == Moment::START && self.revisions == 0 && self.devices.is_empty()
+        if self.moment != Moment::START || self.revisions != 0 {
+            return false;
+        }
+        self.devices.is_empty()
     }
 
     // Declares a device.

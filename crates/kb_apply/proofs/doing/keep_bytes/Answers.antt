@@ -1,6 +1,6 @@
 use Rattle.std.proofs.Common.{◌∙◌, ap}
 use Rattle.std.specs.FinMap.{insert}
-use Rattle.kb_apply.proofs.Laws.{kept_by, put_again}
+use Rattle.kb_apply.proofs.Preparing.{kept_by, put_again}
 use Rattle.kb_apply.proofs.doing.keep_bytes.Goals as goal
 
 pub replace-requires : goal.replace-requires

@@ -1,5 +1,5 @@
 use Rattle.kb_ops.specs.Trees.{new_id}
-use Rattle.kb_apply.proofs.Laws.{ready, after, in_range}
+use Rattle.kb_apply.proofs.Preparing.{ready, after, in_range}
 use Rattle.kb_apply.proofs.doing.prepare.Goals as goal
 
 pub parts_of-requires : goal.parts_of-requires
