@@ -20,7 +20,7 @@ use Rattle.kb_ops.specs.Find.{child, stands_at}
 use Rattle.kb_ops.specs.Plan.{has_child}
 use Rattle.kb_ops.specs.Spots.{spot_cmp}
 use Rattle.kb_ops.proofs.Nodes.{node_is, node_other, apart, and_first, and_second}
-use Rattle.kb_ops.specs.Rows.{meets}
+use Rattle.kb_ops.specs.Rows.{is_dir, meets}
 use Rattle.kb_ops.proofs.Walks.{meets_next}
 use Rattle.kb_ops.proofs.Kept.{some_and}
 use Rattle.kb_ops.proofs.Lists.{look_of, row_of, len_of, values_of}
@@ -154,3 +154,14 @@ root_meets t w goal off zero = node_other root goal off
 root_meets t w goal off (suc n) =
     let r = some_and _ (look t root) w.rooted in
     meets_next (look t) goal root n r.0 off r.1 ∙ ap (meets (look t) goal n) r.2.1 ∙ root_meets t w goal off n
+
+abbrev pub ParentIsDir : Tree → NodeId → Option NodeId → Type 0
+ParentIsDir t parent found = IfSome found (λ _. is_dir (look t) parent ≡ true)
+
+-- only a Dir has a child
+pub child_dir : (t : Tree) → IsWellFormed t → (parent : NodeId) (name : List ℕ) → ParentIsDir t parent (child t parent name)
+child_dir t w parent name =
+    elim (child t parent name) as (λ found. child t parent name ≡ found → ParentIsDir t parent found) [
+      | Some q ↦ λ e. let s = child_stands t w parent name q e in subst (λ p. is_dir (look t) p ≡ true) s.parent_is (w.parents q s.row s.found s.not_root)
+      | None ↦ λ e. tt
+    ] refl

@@ -49,7 +49,10 @@ pub fn compare(rows: &[Row], slot: u32, parent: NodeId, name: &Name) -> Ordering
     ensures { result ≡ spot_cmp (spot_in rows.now slot).0 (parent, name.now) }
 {
     let spot = spot_in(rows, slot);
-    spot.0.cmp(&parent).then(spot.1.cmp(name.bytes()))
+    match spot.0.cmp(&parent) {
+        Ordering::Equal => spot.1.cmp(name.bytes()),
+        apart => apart,
+    }
 }
 
 /// The slots of the rows with a parent.

@@ -1,5 +1,5 @@
 //! The table and its calls.
-ghost use Rattle.std.specs.Prelude.{◌≡◌, ◌+◌, ◌≤◌, length, IsSomeAnd, IfSome, IfOk, OnOk};
+ghost use Rattle.std.specs.Prelude.{true, ◌≡◌, ◌+◌, ◌≤◌, length, IsSomeAnd, IfSome, IfOk, OnOk};
 ghost use Rattle.std.specs.Option.{option_copied};
 ghost use Rattle.std.specs.FinMap as map;
 ghost use Rattle.kb_ops.specs.Trees.{look, start, IsWellFormed};
@@ -259,14 +259,24 @@ impl Table {
     {
         let mut at = NodeId::ROOT;
         for name in names {
-            if !self.is_dir(at) {
-                return Err(WalkFault::NotDir);
-            }
-            match self.child(at, name) {
+            match self.child_of_dir(at, name) {
                 Some(next) => at = next,
-                None => return Err(WalkFault::NotFound),
+                None => return Err(if self.is_dir(at) {
+                    WalkFault::NotFound
+                } else {
+                    WalkFault::NotDir
+                }),
             }
         }
         Ok(at)
+    }
+
+    /// The child of a name. Only a Dir has one, so a walk looks at the row itself only where it ends.
+    fn child_of_dir(&self, parent: NodeId, name: &Name) -> Option<NodeId>
+        ensures is { result ≡ child self.now.tree parent name.now }
+        ensures dir { IfSome result (λ _. is_dir (look self.now.tree) parent ≡ true) }
+    {
+        self.is_well_formed();
+        self.child(parent, name)
     }
 }
