@@ -1,5 +1,5 @@
-use Rattle.std.proofs.Common.{◌≡◌, ℕ, Bool, true, false, length, refl, sym, ap, ◌∙◌, arith, vec_len}
-use Rattle.std.specs.Prelude.{IsTrue, ◌==◌}
+use Rattle.std.proofs.Common.{◌≡◌, length, ap, ◌∙◌, arith}
+use Rattle.std.specs.Prelude.{◌==◌}
 use Rattle.std.proofs.lemmas.Bool.Decides.{nat_tests}
 use Rattle.kb_world.proofs.Members.{none_stand, none_there}
 use Rattle.kb_world.proofs.world.World.is_new.Goals as goal
