@@ -1,0 +1,7 @@
+pub mod Adding
+pub mod Entries
+pub mod Held
+pub mod Laws
+pub mod Notes
+pub mod Seen
+pub mod State

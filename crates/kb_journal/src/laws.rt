@@ -1,0 +1,17 @@
+//! Laws of a journal's state. Each function does nothing: what it ensures is the law.
+ghost use Rattle.kb_journal.specs.Laws.{CompactedLeads, LeadsOnce, ZerosAreEmpty};
+
+/// The compacted list of a state that a list leads to leads to that state.
+pub fn compacted_law()
+    ensures { CompactedLeads }
+{}
+
+/// A list of payloads leads to one state at most.
+pub fn once_law()
+    ensures { LeadsOnce }
+{}
+
+/// A disk of zeros is an empty journal.
+pub fn zeros_law()
+    ensures { ZerosAreEmpty }
+{}

@@ -1,0 +1,22 @@
+//! The journal of a device: what it knows of the folder, and its queue of operations, on a disk.
+#![tactic(auto)]
+
+mod changes;
+mod entries;
+mod faults;
+mod folds;
+mod held;
+mod journal;
+mod laws;
+mod lines;
+mod pieces;
+mod ranges;
+mod reading;
+mod ready;
+#[cfg(test)]
+mod tests;
+
+pub use entries::{Hash, Note};
+pub use faults::{AddFault, JournalFault};
+pub use journal::Journal;
+pub use laws::{compacted_law, once_law, zeros_law};
