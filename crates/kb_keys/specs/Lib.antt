@@ -1,0 +1,5 @@
+pub mod Bundles
+pub mod Halves
+pub mod Policies
+pub mod Rings
+pub mod Secrets
