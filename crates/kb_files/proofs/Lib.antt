@@ -1,0 +1,5 @@
+pub mod Indexes
+pub mod Kept
+pub mod Orders
+pub mod ReadParts
+pub mod Vaults
