@@ -10,4 +10,5 @@ pub mod Noted
 pub mod Once
 pub mod Pushed
 pub mod Short
+pub mod Used
 pub mod Zeros

@@ -1,5 +1,8 @@
 //! Laws of a journal's state. Each function does nothing: what it ensures is the law.
 ghost use Rattle.kb_journal.specs.Laws.{CompactedLeads, LeadsOnce, ZerosAreEmpty};
+ghost use Rattle.kb_journal.specs.Runs.{StaysJournal};
+
+use kb_edge::Disk;
 
 /// The compacted list of a state that a list leads to leads to that state.
 pub fn compacted_law()
@@ -14,4 +17,10 @@ pub fn once_law()
 /// A disk of zeros is an empty journal.
 pub fn zeros_law()
     ensures { ZerosAreEmpty }
+{}
+
+/// A disk that began as zeros, and that a device alone has used, is never refused as no journal, whatever is answered
+/// and whatever the power cuts leave.
+pub fn journal_law<D: Disk>()
+    ensures { StaysJournal D.content D.dirty }
 {}
