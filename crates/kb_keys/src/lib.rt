@@ -4,6 +4,7 @@
 mod bundle;
 mod entries;
 mod halves;
+mod laws;
 mod policy;
 mod ring;
 mod secrets;
@@ -13,6 +14,7 @@ mod tests;
 pub use bundle::{Bundle, KeyFault, RotateFault};
 pub use entries::Entry;
 pub use halves::{Half, Halves};
+pub use laws::{added_law, rotated_law};
 pub use policy::{Action, Policy, Role};
 pub use ring::KeyRing;
 pub use secrets::Secrets;
