@@ -1,3 +1,4 @@
+pub mod EntryTexts
 pub mod Reasons
 pub mod RowTexts
 pub mod LineTexts

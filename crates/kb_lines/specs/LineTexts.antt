@@ -1,11 +1,12 @@
 -- How a reply is printed.
-use Rattle.std.specs.Prelude.{ℕ, ◌+◌, Bool, List, ◌++◌, length, codes, decimal, if◌then◌else◌}
+use Rattle.std.specs.Prelude.{ℕ, ◌+◌, List, ◌++◌, length, codes, decimal}
 use Rattle.std.specs.List.{flat_map}
 use Rattle.kb_name.specs.Texts.{escaped}
 use Rattle.kb_lines.specs.declared.lines.Did.{Did}
 use Rattle.kb_lines.specs.declared.lines.Did.TheVariants as did
 use Rattle.kb_lines.specs.declared.lines.Line.{Line}
-use Rattle.kb_lines.specs.declared.lines.Line.TheVariants.{FolderAt, FolderRefused, Done, Same, Refused, Cat, Ls, Tree, Stat, Picked, Landed, Noted, BranchedAt, Kept, At, Fetched, Merged, Status, Opened, Off, Chain, Revision, Whole}
+use Rattle.kb_lines.specs.declared.lines.Line.TheVariants.{FolderAt, FolderRefused, Done, Same, Refused, Cat, Ls, Tree, Stat, Picked, Landed, Noted, BranchedAt, Kept, At, Fetched, Merged, Status, Opened, Off, Chain, Revision, Whole, FolderCell, Cell, Entry}
+use Rattle.kb_lines.specs.EntryTexts.{standing, branch_text, flight_text, entry_text}
 use Rattle.kb_lines.specs.Reasons.{reason_text}
 use Rattle.kb_lines.specs.RowTexts.{named_row, placed_row, stat_text}
 
@@ -24,16 +25,6 @@ did_text (did.Merge d first last) = codes "merge " ++ escaped d ++ codes " " ++ 
 did_text (did.GrantWriter by d) = codes "grant " ++ escaped by ++ codes " " ++ escaped d ++ codes " writer"
 did_text (did.GrantReader by d) = codes "grant " ++ escaped by ++ codes " " ++ escaped d ++ codes " reader"
 did_text (did.Revoke by d) = codes "revoke " ++ escaped by ++ codes " " ++ escaped d
-
-abbrev pub branch_text : Bool → List ℕ
-branch_text branched = if branched then codes "branched" else codes "merged"
-
-abbrev pub flight_text : Bool → List ℕ
-flight_text flight = if flight then codes "flight" else codes "idle"
-
--- where a device stands
-abbrev pub standing : List ℕ → ℕ → ℕ → ℕ → List ℕ
-standing word r queue last = word ++ codes " at " ++ decimal r ++ codes " queue " ++ decimal queue ++ codes " last " ++ decimal last
 
 abbrev pub text_of : Line → List ℕ
 text_of (FolderAt r) = folder_says (codes "at " ++ decimal r)
@@ -59,6 +50,9 @@ text_of (Off d) = says d (codes "off")
 text_of (Chain n g) = folder_says (decimal n ++ codes " revisions generation " ++ decimal g)
 text_of (Revision n what) = decimal n ++ codes " " ++ did_text what ++ codes "\n"
 text_of (Whole n) = folder_says (codes "whole " ++ decimal n)
+text_of (FolderCell n) = codes "cell folder " ++ decimal n ++ codes "\n"
+text_of (Cell d n) = codes "cell " ++ escaped d ++ codes " " ++ decimal n ++ codes "\n"
+text_of (Entry worker asked answer) = entry_text worker asked answer
 
 abbrev pub text_of_all : List Line → List ℕ
 text_of_all lines = flat_map text_of lines

@@ -1,6 +1,7 @@
 //! The lines that are printed.
 #![tactic(auto)]
 
+mod entries;
 mod lines;
 mod pieces;
 mod reasons;
@@ -9,6 +10,6 @@ mod rows;
 #[cfg(test)]
 mod tests;
 
-pub use lines::{Did, Line};
+pub use lines::{Answer, Asked, Did, Line};
 pub use reasons::Reason;
 pub use rendering::render;

@@ -1,6 +1,6 @@
 use super::reasons::Reason;
 use kb_name::DeviceName;
-use kb_ops::{Bytes, PlacedRows, Row, Rows};
+use kb_ops::{Bytes, PlacedRows, Request, Row, Rows, Show};
 
 /// What a revision of the folder's chain did.
 #[derive(Debug, Drop)]
@@ -29,6 +29,58 @@ pub enum Did {
         by: DeviceName,
         device: DeviceName,
     },
+}
+
+/// What a worker of a block asked a device or the folder for.
+#[derive(Debug, Drop)]
+pub enum Asked {
+    Call { request: Request },
+    Look { show: Show },
+    Status,
+    Pick,
+    /// The answer to a put is noted.
+    Note { put: Answer },
+    /// A revision of this number is put.
+    Put { revision: u32 },
+}
+
+/// An answer to a worker of a block.
+#[derive(Debug, Drop)]
+pub enum Answer {
+    Done {
+        seq: u32,
+    },
+    Same,
+    Refused {
+        reason: Reason,
+    },
+    Cat {
+        bytes: Bytes,
+    },
+    Stat {
+        row: Row,
+    },
+    Status {
+        at: u32,
+        queue: u32,
+        last: u32,
+        branched: bool,
+        flight: bool,
+    },
+    Picked {
+        seq: u32,
+        revision: u32,
+    },
+    Landed {
+        revision: u32,
+    },
+    Noted {
+        revision: u32,
+    },
+    BranchedAt {
+        revision: u32,
+    },
+    Kept,
 }
 
 /// A reply that is printed. Revisions are numbered from 1.
@@ -140,5 +192,20 @@ pub enum Line {
     /// The folder was audited.
     Whole {
         revisions: u32,
+    },
+    /// The head of the folder's history in a block of workers; so many entries follow.
+    FolderCell {
+        entries: u32,
+    },
+    /// The head of a device's history in a block.
+    Cell {
+        device: DeviceName,
+        entries: u32,
+    },
+    /// What a worker of a block asked for, and the answer. Workers are numbered from 1.
+    Entry {
+        worker: u32,
+        asked: Asked,
+        answer: Answer,
     },
 }

@@ -4,6 +4,7 @@ ghost use Rattle.std.specs.String.{string_bytes};
 ghost use Rattle.percent_encoding.specs.Iter.{encoded_text};
 ghost use Rattle.kb_name.specs.Texts.{escaped};
 ghost use Rattle.kb_lines.specs.RowTexts.{kind_text, exec_text, path_text};
+ghost use Rattle.kb_lines.specs.EntryTexts.{branch_text, flight_text};
 ghost use Rattle.kb_lines.specs.Reasons.{reason_name, reason_text};
 
 use super::reasons::Reason;
@@ -35,6 +36,18 @@ pub fn exec_text(on: bool) -> &'static str
     ensures { result.now ≡ exec_text on }
 {
     if on { "x" } else { "-" }
+}
+
+pub fn branch_text(branched: bool) -> &'static str
+    ensures { result.now ≡ branch_text branched }
+{
+    if branched { "branched" } else { "merged" }
+}
+
+pub fn flight_text(flight: bool) -> &'static str
+    ensures { result.now ≡ flight_text flight }
+{
+    if flight { "flight" } else { "idle" }
 }
 
 /// `/` and a name, repeated.

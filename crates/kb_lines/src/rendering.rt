@@ -1,10 +1,12 @@
 ghost use Rattle.std.specs.Prelude.{◌≡◌, ◌++◌, codes, decimal, IfOk, OnOk};
 ghost use Rattle.std.specs.String.{string_bytes};
 ghost use Rattle.kb_name.specs.Texts.{escaped};
-ghost use Rattle.kb_lines.specs.LineTexts.{says, folder_says, standing, text_of, text_of_all, did_text, branch_text, flight_text};
+ghost use Rattle.kb_lines.specs.LineTexts.{says, folder_says, text_of, text_of_all, did_text};
+ghost use Rattle.kb_lines.specs.EntryTexts.{standing, branch_text, flight_text};
 
+use super::entries::push_entry;
 use super::lines::{Did, Line};
-use super::pieces::{escaped, push_reason};
+use super::pieces::{branch_text, escaped, flight_text, push_reason};
 use super::rows::{push_paths, push_rows, push_stat};
 use kb_edge::Memory;
 use kb_name::DeviceName;
@@ -34,18 +36,6 @@ fn push_did(text: &mut String, did: &Did) -> Result<(), AllocError>
             write!(text, "revoke {} {device}", escaped(by.bytes()))
         }
     }
-}
-
-fn branch_text(branched: bool) -> &'static str
-    ensures { result.now ≡ branch_text branched }
-{
-    if branched { "branched" } else { "merged" }
-}
-
-fn flight_text(flight: bool) -> &'static str
-    ensures { result.now ≡ flight_text flight }
-{
-    if flight { "flight" } else { "idle" }
 }
 
 fn push_branched(text: &mut String, device: &DeviceName, revision: u32) -> Result<(), AllocError>
@@ -197,6 +187,15 @@ fn push_line(alloc: Global, text: &mut String, line: &Line) -> Result<(), AllocE
             text.push_str("\n")
         }
         Line::Whole { revisions } => writeln!(text, "folder: whole {revisions}"),
+        Line::FolderCell { entries } => writeln!(text, "cell folder {entries}"),
+        Line::Cell { device, entries } => {
+            writeln!(text, "cell {} {entries}", escaped(device.bytes()))
+        }
+        Line::Entry {
+            worker,
+            asked,
+            answer,
+        } => push_entry(alloc, text, *worker, asked, answer),
     }
 }
 

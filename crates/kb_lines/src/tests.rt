@@ -1,6 +1,6 @@
-use super::{Did, Line, Reason, render};
+use super::{Answer, Asked, Did, Line, Reason, render};
 use kb_name::{DeviceName, Moment, Name, NodeId};
-use kb_ops::{Bytes, Kind, Names, Placed, PlacedRows, Row, Rows};
+use kb_ops::{Bytes, Kind, Names, Placed, PlacedRows, Request, Row, Rows, Word};
 use std::alloc::Global;
 use std::test::Fail;
 
@@ -238,5 +238,43 @@ fn rekeys(rt: HostRuntime) -> Result<(), Fail> {
     };
     let line = Line::Revision { number: 3, did };
     assert!(rt; is_shown(alloc, line, "3 revoke laptop laptop\n")?);
+    Ok(())
+}
+
+fn write_of(alloc: Global, path: &str, bytes: &str) -> Result<Request, Fail> {
+    let path = match Word::new(alloc, path) {
+        Ok(path) => path,
+        Err(_) => return Err(Fail::from("no memory")),
+    };
+    let bytes = Bytes::new(Vec::from_slice(alloc, bytes.as_bytes())?);
+    Ok(Request::Write {
+        path,
+        offset: 0,
+        bytes,
+    })
+}
+
+#[test]
+fn histories(rt: HostRuntime) -> Result<(), Fail> {
+    let alloc = rt.alloc();
+    let line = Line::FolderCell { entries: 2 };
+    assert!(rt; is_shown(alloc, line, "cell folder 2\n")?);
+    let device = laptop(alloc)?;
+    let line = Line::Cell { device, entries: 1 };
+    assert!(rt; is_shown(alloc, line, "cell laptop 1\n")?);
+    let request = write_of(alloc, "/a%20b", "x y")?;
+    let line = Line::Entry {
+        worker: 1,
+        asked: Asked::Call { request },
+        answer: Answer::Done { seq: 3 },
+    };
+    assert!(rt; is_shown(alloc, line, "1 write /a%20b 0 =x%20y -> done 3\n")?);
+    let put = Answer::Landed { revision: 4 };
+    let line = Line::Entry {
+        worker: 2,
+        asked: Asked::Note { put },
+        answer: Answer::Noted { revision: 4 },
+    };
+    assert!(rt; is_shown(alloc, line, "2 note landed 4 -> noted 4\n")?);
     Ok(())
 }
