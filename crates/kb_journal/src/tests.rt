@@ -261,3 +261,48 @@ fn a_note_is_kept(rt: HostRuntime) -> Result<(), Fail> {
     }
     Ok(())
 }
+
+// Notes that the queue is a branch.
+fn branch<D: Disk>(journal: &mut Journal<D>) -> Result<(), Stopped>
+    requires { journal.old.is_open ≡ true }
+    ensures { OnOk result (journal.new.is_open ≡ true) }
+{
+    if journal.queue().is_empty() || journal.branched() {
+        return Err(Stopped);
+    }
+    journal.note(&Note::Branched)
+}
+
+// Notes that so many of the queue were merged in this revision.
+fn merge<D: Disk>(journal: &mut Journal<D>, number: u32, count: u32) -> Result<(), Stopped>
+    requires { journal.old.is_open ≡ true }
+    ensures { OnOk result (journal.new.is_open ≡ true) }
+{
+    if count == 0 || journal.queue().len() < count as usize || number <= journal.known() {
+        return Err(Stopped);
+    }
+    let hash = [7; 32];
+    journal.note(&Note::Merged {
+        number,
+        hash,
+        count,
+    })
+}
+
+#[test]
+fn a_branch_is_merged(rt: HostRuntime) -> Result<(), Fail> {
+    let alloc = rt.alloc();
+    let mut journal = journal_of(alloc, &[])?;
+    head(&mut journal, 1)?;
+    add(alloc, &mut journal, write(alloc, 3)?)?;
+    add(alloc, &mut journal, write(alloc, 4)?)?;
+    branch(&mut journal)?;
+    assert!(rt; journal.branched());
+    merge(&mut journal, 3, 1)?;
+    assert!(rt; !journal.branched());
+    assert_eq!(rt; journal.known(), 3);
+    assert_eq!(rt; journal.queue().len(), 1);
+    assert_eq!(rt; journal.last(), 2);
+    assert_eq!(rt; *journal.known_hash(), [7; 32]);
+    Ok(())
+}
