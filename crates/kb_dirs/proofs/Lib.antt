@@ -1,0 +1,4 @@
+pub mod Once
+pub mod Orders
+pub mod Places
+pub mod ReadParts

@@ -1,0 +1,11 @@
+use Rattle.std.specs.FinMap.{get}
+use Rattle.kb_keys.specs.Rings.{key_at}
+use Rattle.kb_files.specs.Opens.{Opens}
+use Rattle.kb_files.proofs.Vaults.{refuses_weaker}
+use Rattle.kb_dirs.specs.Dirs.{HoldsDir, HoldsNamed}
+use Rattle.kb_dirs.proofs.listing.find_in.Goals as goal
+
+pub returns-in-Err-clause-reads : goal.returns-in-Err-clause-reads
+returns-in-Err-clause-reads g c =
+    let vault = Opens g.S.Sealer.sealed g.H.BlockHash.hashed (get c.args.store.now) (key_at c.args.keys.now) in
+    refuses_weaker (get c.args.store.now) (HoldsDir vault c.args.ptr) (HoldsNamed vault c.args.ptr c.args.name.now) (λ found h. (h.0, h.1)) c.in-Err.fault c.in-Err.ensures.reads
