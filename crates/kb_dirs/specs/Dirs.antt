@@ -1,5 +1,5 @@
 -- How a directory's block is spelled, and what a pointer to a directory holds.
-use Rattle.std.specs.Prelude.{◌≡◌, ℕ, ◌≤◌, ◌<◌, ◌^◌, Bool, true, not, ◌&&◌, nat_eq, List, [], ◌∷◌, ◌++◌, length, map, Option, Vec, Result, Ok, Err}
+use Rattle.std.specs.Prelude.{◌≡◌, ℕ, ◌≤◌, ◌<◌, ◌^◌, Bool, true, not, ◌&&◌, nat_eq, List, [], ◌∷◌, ◌++◌, length, map, Option, Vec}
 use Rattle.std.specs.declared.alloc.Global.{Global}
 use Rattle.std.specs.List.{flat_map, find, AllByRecursion}
 use Rattle.std.specs.Str.{bytes_eq}
@@ -14,8 +14,6 @@ use Rattle.kb_ops.specs.declared.values.Kind.TheVariants.{Dir, File, Link}
 use Rattle.kb_ops.specs.Grammar.{node_text, name_text, kind_text, flag_text, IsNode}
 use Rattle.kb_blocks.specs.declared.pointer.Ptr.{Ptr}
 use Rattle.kb_files.specs.Files.{Vault, pointer, IsFit}
-use Rattle.kb_files.specs.declared.loading.LoadFault.{LoadFault}
-use Rattle.kb_files.specs.declared.loading.LoadFault.TheVariants.{Missing, BadBlock, Memory}
 use Rattle.kb_dirs.specs.declared.entries.Entry.{Entry}
 
 -- ---- spelling
@@ -88,13 +86,3 @@ entry_named name es = find (is_named name) es
 -- the entry of the name in the directory that the pointer holds, or none
 abbrev pub HoldsNamed : Vault → Ptr → List ℕ → Option Entry → Type 0
 HoldsNamed vault p name found = (es : List Entry) × HoldsDir vault p es × (found ≡ entry_named name es)
-
--- a refusal, but for want of memory, names this block
-abbrev pub FaultNames : List ℕ → LoadFault → Type 0
-FaultNames id (Missing named) = named ≡ id
-FaultNames id (BadBlock named) = named ≡ id
-FaultNames id Memory = Unit {0}
-
-abbrev pub RefusalNames : {X : Type 0} → List ℕ → Result X LoadFault → Type 0
-RefusalNames id (Ok x) = Unit {0}
-RefusalNames id (Err fault) = FaultNames id fault

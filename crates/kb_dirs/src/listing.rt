@@ -3,8 +3,8 @@ ghost use Rattle.std.specs.Prelude.{◌≡◌, ◌<◌, IfSome, length};
 ghost use Rattle.std.specs.FinMap as map;
 ghost use Rattle.std.specs.List.{position};
 ghost use Rattle.kb_keys.specs.Rings.{key_at};
-ghost use Rattle.kb_files.specs.Opens.{Opens, Reads};
-ghost use Rattle.kb_dirs.specs.Dirs.{is_named, entry_named, HoldsDir, HoldsNamed, RefusalNames};
+ghost use Rattle.kb_files.specs.Opens.{Opens, Reads, RefusalNames};
+ghost use Rattle.kb_dirs.specs.Dirs.{is_named, entry_named, HoldsDir, HoldsNamed};
 
 use crate::decode::decode_dir;
 use crate::entries::Entry;
@@ -16,29 +16,6 @@ use kb_name::Name;
 use kb_seal::Sealer;
 use std::alloc::Global;
 
-// The text of the pointer's block; a refusal names the block.
-fn open_dir<S: Sealer, H: BlockHash>(
-    alloc: Global,
-    ptr: Ptr,
-    keys: &KeyRing,
-    store: &Store<H>,
-) -> Result<Vec<u8>, LoadFault>
-    ensures reads { Reads (map.get store.now) (λ text. text.items) (Opens S.sealed H.hashed (map.get store.now) (key_at keys.now) ptr) result }
-    ensures block { RefusalNames ptr.id result }
-{
-    let id = ptr.id;
-    match store.find(&id) {
-        Some(_) => {}
-        None => return Err(LoadFault::Missing { id }),
-    }
-    match open_block::<S, H>(alloc, ptr, keys, store) {
-        Ok(text) => Ok(text),
-        Err(LoadFault::Missing { .. }) => Err(LoadFault::BadBlock { id }),
-        Err(LoadFault::BadBlock { .. }) => Err(LoadFault::BadBlock { id }),
-        Err(LoadFault::Memory) => Err(LoadFault::Memory),
-    }
-}
-
 /// The entries of the directory that the pointer holds.
 pub fn list_dir<S: Sealer, H: BlockHash>(
     alloc: Global,
@@ -47,10 +24,10 @@ pub fn list_dir<S: Sealer, H: BlockHash>(
     store: &Store<H>,
 ) -> Result<Vec<Entry>, LoadFault>
     ensures reads { Reads (map.get store.now) (λ es. es.items) (HoldsDir (Opens S.sealed H.hashed (map.get store.now) (key_at keys.now)) ptr) result }
-    ensures block { RefusalNames ptr.id result }
+    ensures names { RefusalNames ptr.id result }
 {
     let id = ptr.id;
-    let text = match open_dir::<S, H>(alloc, ptr, keys, store) {
+    let text = match open_block::<S, H>(alloc, ptr, keys, store) {
         Ok(text) => text,
         Err(fault) => return Err(fault),
     };
@@ -92,7 +69,7 @@ pub fn find_in<S: Sealer, H: BlockHash>(
     store: &Store<H>,
 ) -> Result<Option<Entry>, LoadFault>
     ensures reads { Reads (map.get store.now) (λ found. found) (HoldsNamed (Opens S.sealed H.hashed (map.get store.now) (key_at keys.now)) ptr name.now) result }
-    ensures block { RefusalNames ptr.id result }
+    ensures names { RefusalNames ptr.id result }
 {
     let entries = match list_dir::<S, H>(alloc, ptr, keys, store) {
         Ok(entries) => entries,

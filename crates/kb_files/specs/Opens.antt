@@ -28,3 +28,13 @@ Refuses {Y} blocks P (BadBlock id) = (is_some (blocks id) ≡ true) × ((y : Y) 
 abbrev pub Reads : {X Y : Type 0} → Blocks → (X → Y) → (Y → Type 0) → Result X LoadFault → Type 0
 Reads blocks view P (Ok x) = P (view x)
 Reads blocks view P (Err e) = Refuses blocks P e
+
+-- a refusal, but for want of memory, names this block
+abbrev pub FaultNames : List ℕ → LoadFault → Type 0
+FaultNames id (Missing named) = named ≡ id
+FaultNames id (BadBlock named) = named ≡ id
+FaultNames id Memory = Unit {0}
+
+abbrev pub RefusalNames : {X : Type 0} → List ℕ → Result X LoadFault → Type 0
+RefusalNames id (Ok x) = Unit {0}
+RefusalNames id (Err fault) = FaultNames id fault

@@ -1,7 +1,7 @@
 //! Opening the block that a pointer names.
 ghost use Rattle.std.specs.FinMap as map;
 ghost use Rattle.kb_keys.specs.Rings.{key_at};
-ghost use Rattle.kb_files.specs.Opens.{Opens, Reads};
+ghost use Rattle.kb_files.specs.Opens.{Opens, Reads, RefusalNames};
 
 use kb_blocks::{BlockHash, Hash, Ptr, Store};
 use kb_keys::KeyRing;
@@ -25,7 +25,8 @@ pub fn open_block<S: Sealer, H: BlockHash>(
     keys: &KeyRing,
     store: &Store<H>,
 ) -> Result<Vec<u8>, LoadFault>
-    ensures { Reads (map.get store.now) (λ text. text.items) (Opens S.sealed H.hashed (map.get store.now) (key_at keys.now) ptr) result }
+    ensures reads { Reads (map.get store.now) (λ text. text.items) (Opens S.sealed H.hashed (map.get store.now) (key_at keys.now) ptr) result }
+    ensures names { RefusalNames ptr.id result }
 {
     let bytes = match store.find(&ptr.id) {
         Some(bytes) => bytes,

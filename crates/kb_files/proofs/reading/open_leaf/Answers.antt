@@ -8,4 +8,4 @@ use Rattle.kb_files.proofs.reading.open_leaf.Goals as goal
 pub returns-in-Err : goal.returns-in-Err
 returns-in-Err g c =
     let vault = Opens g.S.Sealer.sealed g.H.BlockHash.hashed (get c.args.store.now) (key_at c.args.keys.now) in
-    refuses_weaker (get c.args.store.now) (vault c.args.ptr) (IsLeafOf vault c.args.size c.args.ptr) (λ bytes h. (leaf_text bytes, h.1)) c.in-Err.fault c.in-Err.ensures
+    refuses_weaker (get c.args.store.now) (vault c.args.ptr) (IsLeafOf vault c.args.size c.args.ptr) (λ bytes h. (leaf_text bytes, h.1)) c.in-Err.fault c.in-Err.ensures.reads
