@@ -4,3 +4,4 @@ pub mod Moments
 pub mod Nodes
 pub mod Paths
 pub mod Spelled
+pub mod Conflicted

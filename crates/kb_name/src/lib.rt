@@ -1,6 +1,7 @@
 //! Names, paths, and how they are spelled.
 #![tactic(auto)]
 
+mod copies;
 mod cuts;
 mod escapes;
 mod ids;
@@ -8,6 +9,7 @@ mod moments;
 mod names;
 mod paths;
 
+pub use copies::conflicted;
 pub use cuts::parts;
 pub use escapes::{escape, unescape};
 pub use ids::NodeId;

@@ -63,6 +63,14 @@ impl Name {
         Ok(Name { text })
     }
 
+    /// The name that a text is.
+    pub(crate) fn of_text(text: Vec<u8>) -> Self
+        requires { is_name text.items ≡ true }
+        ensures { result ≡ text.items }
+    {
+        Name { text }
+    }
+
     pub fn bytes(&self) -> &[u8]
         ensures value { result.now ≡ self.now }
         ensures name { is_kept_name self.now ≡ true }

@@ -1,6 +1,11 @@
+ghost use Rattle.std.specs.Prelude.{◌≤◌};
+
 use super::{
-    DeviceName, Moment, Name, NameFault, NodeId, Path, PathFault, escape, parts, unescape,
+    DeviceName, Moment, Name, NameFault, NodeId, Path, PathFault, conflicted, escape, parts,
+    unescape,
 };
+use std::alloc::Global;
+use std::process::Abort;
 use std::test::Fail;
 
 #[test]
@@ -126,4 +131,165 @@ fn is_fault(made: Result<Path, PathFault>, fault: PathFault) -> bool {
         Ok(_) => false,
         Err(given) => given == fault,
     }
+}
+
+/// Of a name and the text of its conflicted name by `phone`, on the day of the first of May 2024.
+fn conflicts(rt: &impl Abort, alloc: Global, name: &[u8], k: u64, text: &[u8])
+    requires { 1 ≤ k }
+{
+    on_day(rt, alloc, name, k, 1_714_521_600, text);
+}
+
+fn on_day(rt: &impl Abort, alloc: Global, name: &[u8], k: u64, second: u64, text: &[u8])
+    requires { 1 ≤ k }
+{
+    let name = Name::new(alloc, name).expect(rt, "a name");
+    let device = DeviceName::new(alloc, b"phone").expect(rt, "a device");
+    let moment = Moment::new(second).expect(rt, "a moment");
+    let made = conflicted(alloc, &name, &device, moment, k).expect(rt, "memory");
+    assert!(rt; made.bytes() == text);
+}
+
+#[test]
+fn conflicted_names(rt: HostRuntime) {
+    let alloc = rt.alloc();
+    conflicts(
+        &rt,
+        alloc,
+        b"f.txt",
+        1,
+        b"f.conflicted (phone copy 2024-05-01).txt",
+    );
+    conflicts(
+        &rt,
+        alloc,
+        b"f.txt",
+        2,
+        b"f.conflicted (phone copy 2024-05-01 2).txt",
+    );
+    conflicts(
+        &rt,
+        alloc,
+        b"a.tar.gz",
+        10,
+        b"a.tar.conflicted (phone copy 2024-05-01 10).gz",
+    );
+    conflicts(
+        &rt,
+        alloc,
+        b"README",
+        1,
+        b"README.conflicted (phone copy 2024-05-01)",
+    );
+    conflicts(
+        &rt,
+        alloc,
+        b".profile",
+        1,
+        b".profile.conflicted (phone copy 2024-05-01)",
+    );
+    conflicts(
+        &rt,
+        alloc,
+        b"a.",
+        1,
+        b"a.conflicted (phone copy 2024-05-01).",
+    );
+    conflicts(
+        &rt,
+        alloc,
+        b"..x",
+        1,
+        b"..conflicted (phone copy 2024-05-01).x",
+    );
+    conflicts(
+        &rt,
+        alloc,
+        b"a.31-bytes-behind-a-dot-are-parts",
+        1,
+        b"a.conflicted (phone copy 2024-05-01).31-bytes-behind-a-dot-are-parts",
+    );
+    conflicts(
+        &rt,
+        alloc,
+        b"a.32-bytes-behind-a-dot-are-a-stem",
+        1,
+        b"a.32-bytes-behind-a-dot-are-a-stem.conflicted (phone copy 2024-05-01)",
+    );
+}
+
+#[test]
+fn days(rt: HostRuntime) {
+    let alloc = rt.alloc();
+    on_day(
+        &rt,
+        alloc,
+        b"f",
+        1,
+        0,
+        b"f.conflicted (phone copy 1970-01-01)",
+    );
+    on_day(
+        &rt,
+        alloc,
+        b"f",
+        1,
+        951_868_799,
+        b"f.conflicted (phone copy 2000-02-29)",
+    );
+    on_day(
+        &rt,
+        alloc,
+        b"f",
+        1,
+        951_868_800,
+        b"f.conflicted (phone copy 2000-03-01)",
+    );
+    on_day(
+        &rt,
+        alloc,
+        b"f",
+        1,
+        4_107_542_399,
+        b"f.conflicted (phone copy 2100-02-28)",
+    );
+    on_day(
+        &rt,
+        alloc,
+        b"f",
+        1,
+        4_107_542_400,
+        b"f.conflicted (phone copy 2100-03-01)",
+    );
+    on_day(
+        &rt,
+        alloc,
+        b"f",
+        1,
+        253_402_300_799,
+        b"f.conflicted (phone copy 9999-12-31)",
+    );
+}
+
+/// How many bytes the conflicted name of 85 euro signs has.
+fn cut_name(rt: &impl Abort, alloc: Global, k: u64) -> usize
+    requires { 1 ≤ k }
+{
+    let mut text = Vec::new(alloc);
+    for _ in 0..85 {
+        text.extend_from_slice("€".as_bytes()).expect(rt, "memory");
+    }
+    let name = Name::new(alloc, &text).expect(rt, "a name");
+    let device = DeviceName::new(alloc, b"phone").expect(rt, "a device");
+    let moment = Moment::new(1_714_521_600).expect(rt, "a moment");
+    conflicted(alloc, &name, &device, moment, k)
+        .expect(rt, "memory")
+        .bytes()
+        .len()
+}
+
+#[test]
+fn long_names(rt: HostRuntime) {
+    assert_eq!(rt; cut_name(&rt, rt.alloc(), 1), 254);
+    assert_eq!(rt; cut_name(&rt, rt.alloc(), 2), 253);
 }
