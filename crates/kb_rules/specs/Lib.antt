@@ -1,0 +1,14 @@
+pub mod Three
+pub mod Places
+pub mod Joins
+pub mod Ready
+pub mod Code
+pub mod Names
+pub mod Merge
+pub mod Meet
+pub mod Laws
+pub mod Meanings
+pub mod PlaceSets
+pub mod Naming
+pub mod Hosting
+pub mod Checked
