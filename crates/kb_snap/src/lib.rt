@@ -1,0 +1,19 @@
+//! Whole trees as sealed blocks.
+#![tactic(auto)]
+
+mod blocks;
+mod building;
+mod laws;
+mod listing;
+mod loading;
+mod order;
+mod pointers;
+mod rows;
+#[cfg(test)]
+mod tests;
+
+pub use blocks::SealedBlocks;
+pub use building::{Built, build};
+pub use laws::{left_law, more_blocks_law, one_tree_law, row_by_row_law, stays_law};
+pub use loading::load;
+pub use pointers::Pointers;
