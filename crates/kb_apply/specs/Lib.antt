@@ -4,3 +4,4 @@ pub mod Children
 pub mod Shows
 pub mod Waiting
 pub mod Laws
+pub mod FitTests

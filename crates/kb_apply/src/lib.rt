@@ -2,11 +2,13 @@
 #![tactic(auto)]
 
 mod doing;
+mod fitting;
 mod laws;
 mod plans;
 mod shows;
 
 pub use doing::{Prepared, apply, prepare};
+pub use fitting::fits;
 pub use laws::{listed_law, placed_law};
 pub use plans::plan;
 pub use shows::{ShowFault, show};

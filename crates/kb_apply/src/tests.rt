@@ -1,9 +1,11 @@
-use super::{ShowFault, apply, plan, prepare, show};
+use super::{ShowFault, apply, fits, plan, prepare, show};
 use kb_edge::Memory;
-use kb_name::{Moment, NodeId};
-use kb_ops::{Bytes, Placed, PlanFault, Planned, Request, Row, Show, Shown, Word};
+use kb_name::{Moment, Name, NameFault, NodeId};
+use kb_ops::{
+    Bytes, Change, Kind, Op, Placed, PlanFault, Planned, Request, Row, Show, Shown, Word,
+};
 use kb_tree::Table;
-use std::alloc::Global;
+use std::alloc::{AllocError, Global};
 use std::process::Abort;
 use std::test::Fail;
 
@@ -451,5 +453,113 @@ fn full_tree(rt: HostRuntime) -> Result<(), Fail> {
             Outcome::Refused(PlanFault::TreeFull)
         )
     );
+    Ok(())
+}
+
+fn id(seq: u32) -> NodeId {
+    NodeId {
+        device: 1,
+        seq,
+        part: 0,
+    }
+}
+
+/// Whether a change by an operation of device 1 fits.
+fn is_fit(table: &Table, seq: u32, change: Change) -> bool {
+    let op = Op {
+        device: 1,
+        seq,
+        moment: Moment::START,
+        change,
+    };
+    fits(table, &op)
+}
+
+fn can_create(alloc: Global, table: &Table, seq: u32, name: &[u8]) -> Result<bool, NameFault> {
+    let change = Change::Create {
+        parent: id(1),
+        name: Name::new(alloc, name)?,
+        kind: Kind::File,
+        bytes: Bytes::new(Vec::new(alloc)),
+    };
+    Ok(is_fit(table, seq, change))
+}
+
+/// Whether a row may go into `/b`.
+fn can_rename(
+    alloc: Global,
+    table: &Table,
+    node: u32,
+    name: &[u8],
+    replaced: Option<NodeId>,
+) -> Result<bool, NameFault> {
+    let change = Change::Rename {
+        node: id(node),
+        parent: id(3),
+        name: Name::new(alloc, name)?,
+        replaced,
+    };
+    Ok(is_fit(table, 9, change))
+}
+
+fn can_write(alloc: Global, table: &Table, node: u32, offset: u32) -> Result<bool, AllocError> {
+    let change = Change::Sync {
+        node: id(node),
+        offset,
+        bytes: Bytes::new(Vec::from_slice(alloc, b"ab")?),
+        length: 5,
+    };
+    Ok(is_fit(table, 9, change))
+}
+
+#[test]
+fn fitting(rt: HostRuntime) -> Result<(), Fail> {
+    let alloc = rt.alloc();
+    let mut table = Table::new(alloc)?;
+    begin(&rt, alloc, &mut table);
+    assert!(rt; comes_to(alloc, &mut table, 4, mkfile(alloc, "/b/g"), Outcome::Done));
+    assert!(rt; can_create(alloc, &table, 9, b"g")?);
+    assert!(rt; !can_create(alloc, &table, 4, b"g")?);
+    assert!(rt; !can_create(alloc, &table, 9, b"f")?);
+    assert!(rt; is_fit(&table, 9, Change::Remove { node: id(4) }));
+    assert!(rt; !is_fit(&table, 9, Change::Remove { node: id(3) }));
+    assert!(rt; can_rename(alloc, &table, 2, b"f", None)?);
+    assert!(rt; can_rename(alloc, &table, 2, b"g", Some(id(4)))?);
+    assert!(rt; !can_rename(alloc, &table, 2, b"g", None)?);
+    assert!(rt; !can_rename(alloc, &table, 3, b"b", None)?);
+    assert!(rt; can_write(alloc, &table, 2, 3)?);
+    assert!(rt; !can_write(alloc, &table, 2, 4)?);
+    assert!(rt; !can_write(alloc, &table, 1, 3)?);
+    Ok(())
+}
+
+#[test]
+fn fitting_small_changes(rt: HostRuntime) -> Result<(), Fail> {
+    let alloc = rt.alloc();
+    let mut table = Table::new(alloc)?;
+    let mtime = Moment::START;
+    begin(&rt, alloc, &mut table);
+    assert!(rt;
+        is_fit(
+            &table,
+            9,
+            Change::Exec {
+                node: id(2),
+                on: true
+            }
+        )
+    );
+    assert!(rt;
+        !is_fit(
+            &table,
+            9,
+            Change::Exec {
+                node: id(1),
+                on: true
+            }
+        )
+    );
+    assert!(rt; is_fit(&table, 9, Change::Touch { node: id(1), mtime }));
+    assert!(rt; !is_fit(&table, 9, Change::Touch { node: id(4), mtime }));
     Ok(())
 }

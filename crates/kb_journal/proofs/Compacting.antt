@@ -19,7 +19,7 @@ flag_length : (b : Bool) → length (flag_text b) ≡ 1
 flag_length true = refl
 flag_length false = refl
 
-queue_sum : (ops : List Operation) → sum_by (λ (p : List ℕ). 5 + length p) (map queued_text ops) ≡ sum_by (λ (o : Operation). 6 + length (op_text o)) ops
+pub queue_sum : (ops : List Operation) → sum_by (λ (p : List ℕ). 5 + length p) (map queued_text ops) ≡ sum_by (λ (o : Operation). 6 + length (op_text o)) ops
 queue_sum [] = refl
 queue_sum (o ∷ ops) =
     omega (arith, sum_by-cons (λ (p : List ℕ). 5 + length p) (queued_text o) (map queued_text ops), sum_by-cons (λ (o : Operation). 6 + length (op_text o)) o ops, queue_sum ops)

@@ -10,6 +10,10 @@ CompactedLeads = (ps : List (List ℕ)) (s : State) → Leads empty ps s → Lea
 abbrev pub LeadsOnce : Type 0
 LeadsOnce = (ps : List (List ℕ)) (s t : State) → Leads empty ps s → Leads empty ps t → s ≡ t
 
+-- the bytes of a disk have one state at most
+abbrev pub HasOneState : Type 0
+HasOneState = (s t : State) (image : List ℕ) → HasState s image → HasState t image → s ≡ t
+
 -- a disk of zeros has the empty state, so it is never refused as no journal
 abbrev pub ZerosAreEmpty : Type 0
 ZerosAreEmpty = (size : ℕ) → 4096 ≤ size → HasState empty (replicate size 0)

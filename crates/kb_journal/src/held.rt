@@ -1,6 +1,5 @@
 //! The state of a journal in memory.
-ghost use Rattle.std.specs.Prelude.{◌≡◌, ◌+◌, ◌<◌, ◌≤◌, ◌^◌, ◌++◌, [], ◌∷◌, true, drop, length, map, vec_len, IfOk, IfErr, OnOk, OnErr, IsErrOf, ⊤};
-ghost use Rattle.std.specs.Option.{SomeIff};
+ghost use Rattle.std.specs.Prelude.{◌≡◌, ◌+◌, ◌*◌, ◌<◌, ◌≤◌, ◌^◌, ◌++◌, [], ◌∷◌, true, drop, length, map, sum_by, vec_len, IfOk, IfErr, OnOk, OnErr, IsErrOf, ⊤};
 ghost use Rattle.kb_ops.specs.Grammar.{IsProper};
 ghost use Rattle.kb_log.specs.LogList.{lists_of};
 ghost use Rattle.kb_journal.specs.Entries.{entry_text, IsEntry};
@@ -14,7 +13,7 @@ use kb_edge::Memory;
 use kb_ops::Op as Operation;
 use std::alloc::Global;
 
-/// What is known, what is queued, and the payload of each queued operation.
+/// What is known, what is queued, the payload of each queued operation, and the bytes of the compacted text.
 #[derive(Drop)]
 pub struct Held {
     pub known: u32,
@@ -23,9 +22,12 @@ pub struct Held {
     pub mark: bool,
     pub ops: Vec<Operation>,
     pub texts: Vec<Vec<u8>>,
+    pub used: u64,
     pub ghost spelled: { lists_of texts.items ≡ map queued_text ops.items },
     pub ghost few: { vec_len ops ≤ 4096 },
     pub ghost last_fits: { base + vec_len ops < 2 ^ 32 },
+    pub ghost counted: { used ≡ use_of ops.items },
+    pub ghost bounded: { used ≤ 48 + 2 ^ 17 * (base + vec_len ops) },
 }
 
 impl Held {
@@ -46,6 +48,7 @@ impl Held {
             mark: false,
             ops: Vec::new(alloc),
             texts: Vec::new(alloc),
+            used: 48,
         }
     }
 
@@ -84,18 +87,21 @@ impl Held {
         requires few { vec_len self.old.ops < 4096 }
         requires next { last_seq (state_of self.old) + 1 < 2 ^ 32 }
         requires text { text.items ≡ queued_text op }
+        requires short { length text.items ≤ 100000 }
         ensures ok { OnOk result (state_of self.new ≡ done (state_of self.old) (entries.Op op)) }
         ensures err { OnErr result (state_of self.new ≡ state_of self.old) }
         ensures texts { OnOk result (self.new.texts.items ≡ self.old.texts.items ++ text ∷ []) }
     {
         self.ops.reserve(1)?;
         self.texts.reserve(1)?;
+        let added = record_len(&text);
         let Ok(()) = self.ops.push(op) else {
             unreachable!()
         };
         let Ok(()) = self.texts.push(text) else {
             unreachable!()
         };
+        self.used += added;
         Ok(())
     }
 
@@ -104,6 +110,7 @@ impl Held {
         requires few { vec_len self.old.ops < 4096 }
         requires next { last_seq (state_of self.old) + 1 < 2 ^ 32 }
         requires text { text.items ≡ queued_text op.now }
+        requires short { length text.items ≤ 100000 }
         ensures ok { OnOk result (state_of self.new ≡ done (state_of self.old) (entries.Op op.now)) }
         ensures err { OnErr result (state_of self.new ≡ state_of self.old) }
         ensures texts { OnOk result (self.new.texts.items ≡ self.old.texts.items ++ text ∷ []) }
@@ -120,6 +127,7 @@ impl Held {
         requires whole { use_of self.now.ops.items ≤ area }
         requires small { area < 2 ^ 24 }
         ensures taken { IfOk result (λ text. (text.items ≡ queued_text op.now) × Takes (state_of self.now) area op.now) }
+        ensures short { IfOk result (λ text. length text.items ≤ 100000) }
         ensures refused { IfErr result (AddRefuses (state_of self.now) area op.now ⊤) }
         ensures never_stopped { IsErrOf result AddFault.Stopped → ⊥ }
     {
@@ -133,10 +141,7 @@ impl Held {
             Ok(text) => text,
             Err(Memory) => return Err(AddFault::Memory),
         };
-        let Some(used) = self.use_within(area) else {
-            unreachable!()
-        };
-        let need = used + 5 + text.len() as u32;
+        let need = self.used as u32 + record_len(&text) as u32;
         if need > area {
             return Err(AddFault::Full { need, room: area });
         }
@@ -148,9 +153,11 @@ impl Held {
         requires { n ≤ vec_len self.old.ops }
         ensures { state_of self.new ≡ record (state_of self.old) { base = self.old.base + n; queue = drop n self.old.ops.items } }
     {
+        let gone = records_len(&self.texts, n);
         drop_front(&mut self.ops, n);
         drop_front(&mut self.texts, n);
         self.base += n as u32;
+        self.used -= gone;
     }
 
     /// The first of the queue landed.
@@ -239,29 +246,11 @@ impl Held {
         Ok(())
     }
 
-    /// The bytes of the compacted text, where they are at most so many.
-    pub fn use_within(&self, most: u32) -> Option<u32>
-        ensures { SomeIff result (use_of self.now.ops.items ≤ most) (use_of self.now.ops.items) }
-    {
-        if most < 48 {
-            return None;
-        }
-        let mut used = 48;
-        for text in &self.texts {
-            let left = (most - used) as usize;
-            if left < text.len() || left - text.len() < 5 {
-                return None;
-            }
-            used += text.len() as u32 + 5;
-        }
-        Some(used)
-    }
-
     /// Whether the compacted text fits the area, and a set mark has a queue.
     pub fn is_whole(&self, area: u32) -> bool
         ensures { result ≡ is_whole area (state_of self.now) }
     {
-        self.use_within(area).is_some() && (!self.mark || 0 < self.ops.len())
+        self.used <= u64::from(area) && (!self.mark || 0 < self.ops.len())
     }
 
     /// What the next payload leads to. It is refused exactly where it is out of the grammar or may not come now.
@@ -295,6 +284,27 @@ fn payload_of(alloc: Global, op: &Operation) -> Result<Vec<u8>, Memory>
     text.push(1)?;
     text.extend_from_slice(&bytes)?;
     Ok(text)
+}
+
+// The bytes of a payload's record.
+fn record_len(text: &Vec<u8>) -> u64
+    requires { length text.now.items ≤ 100000 }
+    ensures { result ≡ 5 + length text.now.items }
+{
+    text.len() as u64 + 5
+}
+
+// The bytes of the first n records.
+fn records_len(texts: &[Vec<u8>], n: usize) -> u64
+    requires within { n ≤ length texts.now }
+    requires small { sum_by (λ p. 5 + length p) (lists_of texts.now) < 2 ^ 63 }
+    ensures { result + sum_by (λ p. 5 + length p) (lists_of (drop n texts.now)) ≡ sum_by (λ p. 5 + length p) (lists_of texts.now) }
+{
+    let mut bytes = 0;
+    for i in 0..n {
+        bytes += texts[i].len() as u64 + 5;
+    }
+    bytes
 }
 
 // Drops the first n.

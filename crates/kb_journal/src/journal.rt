@@ -1,7 +1,7 @@
 //! The journal.
 ghost use Rattle.std.specs.Prelude.{◌≡◌, ◌⊎◌, ◌+◌, ◌≤◌, ◌<◌, ◌^◌, true, false, List, ℕ, length, IfOk, IfErr, OnOk, OnErr, IsErrOf};
 ghost use Rattle.kb_edge.specs.Causes.{Rose};
-ghost use Rattle.kb_edge.specs.Disk.{FallsBy};
+ghost use Rattle.kb_edge.specs.Disk.{FallsBy, MayLeave};
 ghost use Rattle.kb_ops.specs.Grammar.{IsProper};
 ghost use Rattle.kb_log.specs.Images.{EachImage, LeavesNoMore};
 ghost use Rattle.kb_log.specs.LogList.{area_size};
@@ -10,11 +10,12 @@ ghost use Rattle.kb_journal.specs.Adding.{AddRefuses, Takes};
 ghost use Rattle.kb_journal.specs.Notes.{entry_of};
 ghost use Rattle.kb_journal.specs.declared.entries.Entry.TheVariants as entries;
 ghost use Rattle.kb_journal.specs.State.{HasState, IsNoJournal, last_seq, takes_device, allows, done};
+ghost use Rattle.kb_journal.specs.Runs.{Use};
 
 use crate::entries::{EntryFault, Hash, Note};
 use crate::faults::{AddFault, JournalFault};
 use crate::ready::Ready;
-use kb_edge::{CrashDisk, Disk, Stopped};
+use kb_edge::{CrashDisk, Disk, Pick, Stopped};
 use kb_log::{Log, LogFault};
 use kb_ops::Op as Operation;
 use std::alloc::Global;
@@ -59,6 +60,8 @@ impl<D: Disk> Journal<D> {
         ensures images { IfOk result (λ journal. LeavesNoMore D.content D.dirty disk journal.disk) }
         ensures images_err { IfErr result (λ e. LeavesNoMore D.content D.dirty disk e.0) }
         ensures durable { IfOk result (λ journal. EachImage D.content D.dirty journal.disk (HasState journal.state)) }
+        ensures used { IfOk result (λ journal. Use D.content D.dirty disk journal.disk) }
+        ensures used_err { IfErr result (λ e. Use D.content D.dirty disk e.0) }
 
         ensures left { IfOk result (λ journal. FallsBy 1 (D.left disk) (D.left journal.disk)) }
         ensures left_err { IfErr result (λ e. FallsBy 1 (D.left disk) (D.left e.0)) }
@@ -95,6 +98,7 @@ impl<D: Disk> Journal<D> {
         // A power cut after Ok leaves the new state, and whatever is answered the old one or the new one.
         ensures durable { OnOk result (EachImage D.content D.dirty self.new.disk (HasState (done self.old.state (entries.Op op.now)))) }
         ensures every { EachImage D.content D.dirty self.new.disk (λ image. HasState self.old.state image ⊎ HasState (done self.old.state (entries.Op op.now)) image) }
+        ensures used { Use D.content D.dirty self.old.disk self.new.disk }
 
         // The first refusal that applies, with nothing changed.
         ensures refused { IfErr result (AddRefuses self.old.state (area_size (length (D.content self.old.disk))) op.now (self.new ≡ self.old)) }
@@ -121,6 +125,7 @@ impl<D: Disk> Journal<D> {
         // A power cut after Ok leaves the new state, and whatever is answered the old one or the new one.
         ensures durable { OnOk result (EachImage D.content D.dirty self.new.disk (HasState (done self.old.state (entry_of self.old.state note.now)))) }
         ensures every { EachImage D.content D.dirty self.new.disk (λ image. HasState self.old.state image ⊎ HasState (done self.old.state (entry_of self.old.state note.now)) image) }
+        ensures used { Use D.content D.dirty self.old.disk self.new.disk }
 
         ensures left { FallsBy 4 (D.left self.old.disk) (D.left self.new.disk) }
         ensures spent { OnErr result (RanOut 4 (D.left self.old.disk) (D.left self.new.disk)) }
@@ -184,7 +189,21 @@ impl<D: CrashDisk> Journal<D> {
         ensures dirty { (place : ℕ) → D.dirty self.new.disk place ≡ D.dirty self.old.disk place }
         ensures left { D.left self.new.disk ≡ Some steps }
         ensures faults { D.faults self.new.disk ≡ D.faults self.old.disk }
+        ensures used { Use D.content D.dirty self.old.disk self.new.disk }
     {
         self.log.arm(steps);
+    }
+
+    /// Cuts the power and puts it on again, and gives the disk back, whose journal has to be opened again.
+    pub fn power(self, pick: Pick) -> D
+        ensures image { MayLeave (D.content self.disk) (D.dirty self.disk) (D.content result) }
+        ensures clean { IsClean (D.dirty result) }
+        ensures left { D.left result ≡ None }
+        ensures faults { D.faults result ≡ D.faults self.disk }
+        ensures used { Use D.content D.dirty self.disk result }
+    {
+        let mut disk = self.finish();
+        disk.power(pick);
+        disk
     }
 }

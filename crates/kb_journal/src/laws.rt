@@ -1,5 +1,5 @@
 //! Laws of a journal's state. Each function does nothing: what it ensures is the law.
-ghost use Rattle.kb_journal.specs.Laws.{CompactedLeads, LeadsOnce, ZerosAreEmpty};
+ghost use Rattle.kb_journal.specs.Laws.{CompactedLeads, LeadsOnce, HasOneState, ZerosAreEmpty};
 ghost use Rattle.kb_journal.specs.Runs.{StaysJournal};
 
 use kb_edge::Disk;
@@ -12,6 +12,11 @@ pub fn compacted_law()
 /// A list of payloads leads to one state at most.
 pub fn once_law()
     ensures { LeadsOnce }
+{}
+
+/// The bytes of a disk have one state at most.
+pub fn one_state_law()
+    ensures { HasOneState }
 {}
 
 /// A disk of zeros is an empty journal.

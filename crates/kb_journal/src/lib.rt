@@ -19,4 +19,4 @@ mod tests;
 pub use entries::{Hash, Note};
 pub use faults::{AddFault, JournalFault};
 pub use journal::Journal;
-pub use laws::{compacted_law, journal_law, once_law, zeros_law};
+pub use laws::{compacted_law, journal_law, once_law, one_state_law, zeros_law};

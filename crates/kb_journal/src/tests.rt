@@ -1,9 +1,9 @@
 //! Journals over disks in memory.
-ghost use Rattle.std.specs.Prelude.{◌≡◌, true, IfOk, OnOk};
+ghost use Rattle.std.specs.Prelude.{◌≡◌, ◌≤◌, ◌^◌, true, IfOk, OnOk};
 ghost use Rattle.kb_ops.specs.Grammar.{MeetsRules};
 
 use crate::{AddFault, Journal, JournalFault, Note};
-use kb_edge::{CrashDisk, Disk, Memory, Pick, Stopped};
+use kb_edge::{Disk, Memory, Pick, Stopped};
 use kb_log::Log;
 use kb_memdisk::MemDisk;
 use kb_name::{Moment, Name, NodeId};
@@ -245,8 +245,7 @@ fn a_note_is_kept(rt: HostRuntime) -> Result<(), Fail> {
         journal.arm(steps);
         let answer = land(&mut journal, 2);
         assert_eq!(rt; answer.is_ok(), steps == 4);
-        let mut disk = journal.finish();
-        disk.power(Pick::Old);
+        let disk = journal.power(Pick::Old);
         if disk.size() < 4096 || disk.size() > 16_777_216 {
             return Err(Fail::from("size"));
         }
@@ -304,5 +303,43 @@ fn a_branch_is_merged(rt: HostRuntime) -> Result<(), Fail> {
     assert_eq!(rt; journal.queue().len(), 1);
     assert_eq!(rt; journal.last(), 2);
     assert_eq!(rt; *journal.known_hash(), [7; 32]);
+    Ok(())
+}
+
+fn touch() -> Change
+    ensures { MeetsRules result }
+{
+    Change::Touch {
+        node: NodeId::ROOT,
+        mtime: Moment::START,
+    }
+}
+
+// A journal of a new disk.
+fn new_journal(alloc: Global, size: u32) -> Result<Journal<MemDisk>, JournalFault>
+    requires low { 4096 ≤ size }
+    requires high { size ≤ 2 ^ 24 }
+    ensures { IfOk result (λ journal. journal.is_open ≡ true) }
+{
+    let disk = match MemDisk::new(alloc, size) {
+        Ok(disk) => disk,
+        Err(Memory) => return Err(JournalFault::Memory),
+    };
+    match Journal::open(alloc, disk) {
+        Ok(journal) => Ok(journal),
+        Err((_, fault)) => Err(fault),
+    }
+}
+
+#[test]
+fn the_queue_is_full(rt: HostRuntime) -> Result<(), Fail> {
+    let alloc = rt.alloc();
+    let mut journal = new_journal(alloc, 1_048_576)?;
+    for _ in 0..4096 {
+        add(alloc, &mut journal, touch())?;
+    }
+    let answer = add(alloc, &mut journal, touch());
+    assert_eq!(rt; answer, Err(AddFault::QueueFull));
+    assert_eq!(rt; journal.last(), 4096);
     Ok(())
 }

@@ -1,4 +1,4 @@
-use Rattle.std.proofs.Common.{◌≡◌, ◌⊎◌, OnOk, ap, subst}
+use Rattle.std.proofs.Common.{◌≡◌, ◌⊎◌, inl, inr, OnOk, ap, subst}
 use Rattle.kb_log.specs.Images.{EachImage}
 use Rattle.kb_journal.specs.declared.entries.Entry.TheVariants.{Op}
 use Rattle.kb_journal.specs.Held.{state_of}
@@ -15,3 +15,8 @@ pub returns-clause-every : goal.returns-clause-every
 returns-clause-every g c =
     let same : state_of c.self.inside.ready.held ≡ c.args.self.now.state = ap (λ (j : JournalState _). j.state) c.self.view_is in
     subst (λ (s : State). EachImage g.D.Disk.content g.D.Disk.dirty c.add.new.log.disk (λ image. HasState s image ⊎ HasState (done s (Op c.args.op.now)) image)) same c.add.ensures.every
+
+pub returns-clause-used : goal.returns-clause-used
+returns-clause-used g c =
+    let same : state_of c.self.inside.ready.held ≡ c.args.self.now.state = ap (λ (j : JournalState _). j.state) c.self.view_is in
+    inr (inl (c.args.self.now.state, done c.args.self.now.state (Op c.args.op.now), subst (λ (s : State). EachImage g.D.Disk.content g.D.Disk.dirty c.add.new.log.disk (λ image. HasState s image ⊎ HasState (done s (Op c.args.op.now)) image)) same c.add.ensures.every))

@@ -1,4 +1,4 @@
-use Rattle.std.proofs.Common.{◌≡◌, ◌⊎◌, OnOk, ap, subst}
+use Rattle.std.proofs.Common.{◌≡◌, ◌⊎◌, inl, inr, OnOk, ap, subst}
 use Rattle.kb_log.specs.Images.{EachImage}
 use Rattle.kb_journal.specs.Held.{state_of}
 use Rattle.kb_journal.specs.Notes.{entry_of}
@@ -15,3 +15,8 @@ pub returns-clause-every : goal.returns-clause-every
 returns-clause-every g c =
     let same : state_of c.self.inside.ready.held ≡ c.args.self.now.state = ap (λ (j : JournalState _). j.state) c.self.view_is in
     subst (λ (s : State). EachImage g.D.Disk.content g.D.Disk.dirty c.note.new.log.disk (λ image. HasState s image ⊎ HasState (done s (entry_of s c.args.note.now)) image)) same c.note.ensures.every
+
+pub returns-clause-used : goal.returns-clause-used
+returns-clause-used g c =
+    let same : state_of c.self.inside.ready.held ≡ c.args.self.now.state = ap (λ (j : JournalState _). j.state) c.self.view_is in
+    inr (inl (c.args.self.now.state, done c.args.self.now.state (entry_of c.args.self.now.state c.args.note.now), subst (λ (s : State). EachImage g.D.Disk.content g.D.Disk.dirty c.note.new.log.disk (λ image. HasState s image ⊎ HasState (done s (entry_of s c.args.note.now)) image)) same c.note.ensures.every))
