@@ -1,5 +1,8 @@
 pub mod Ids
-pub mod Moves
-pub mod OwnedKept
+pub mod Sessions
+pub mod Folds
 pub mod Longer
 pub mod Calls
+pub mod Found
+pub mod Devices
+pub mod OwnedKept

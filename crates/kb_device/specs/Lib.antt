@@ -3,4 +3,8 @@ pub mod Refusals
 pub mod Parts
 pub mod Owned
 pub mod Fresh
+pub mod Running
+pub mod Disks
+pub mod Openings
+pub mod Calling
 pub mod Stands

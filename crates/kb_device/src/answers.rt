@@ -1,6 +1,7 @@
 //! What a device answers.
 use kb_apply::ShowFault;
 use kb_edge::Memory;
+use kb_journal::{AddFault, JournalFault};
 use kb_ops::PlanFault;
 
 /// A file call that was taken: an operation with this seq, or nothing to do.
@@ -26,7 +27,13 @@ pub enum Refusal {
     TreeFull,
     /// The device's last seq is 4,294,967,295.
     Spent,
+    /// 4,096 operations are queued.
+    QueueFull,
+    /// The journal would need so many bytes, and has room for fewer.
+    Full { need: u32, room: u32 },
     Memory,
+    /// The disk stopped, and the session has ended: an opening shows whether the operation is there.
+    Stopped,
 }
 
 impl From<PlanFault> for Refusal {
@@ -48,6 +55,23 @@ impl From<PlanFault> for Refusal {
             PlanFault::TooBig => Refusal::TooBig,
             PlanFault::TreeFull => Refusal::TreeFull,
             PlanFault::Memory => Refusal::Memory,
+        }
+    }
+}
+
+impl From<AddFault> for Refusal {
+    ghost use Rattle.std.specs.Prelude.{◌≡◌};
+    ghost use Rattle.kb_device.specs.Refusals.{refusal_of_add};
+
+    ghost from_gives = { λ f e. e ≡ refusal_of_add f };
+
+    fn from(fault: AddFault) -> Self {
+        match fault {
+            AddFault::Spent => Refusal::Spent,
+            AddFault::QueueFull => Refusal::QueueFull,
+            AddFault::Full { need, room } => Refusal::Full { need, room },
+            AddFault::Memory => Refusal::Memory,
+            AddFault::Stopped => Refusal::Stopped,
         }
     }
 }
@@ -81,16 +105,45 @@ impl From<ShowFault> for Refusal {
     }
 }
 
-/// An open device: its known revision, the number of queued operations, and its last seq.
+/// An open device: its known revision, the number of queued operations, its last seq, whether the queue is a branch,
+/// and whether an operation is in flight.
 #[derive(Clone, Copy, Debug, PartialEq, Eq)]
 pub struct Status {
     pub at: u32,
     pub queue: u32,
     pub last: u32,
+    pub branched: bool,
+    pub flight: bool,
 }
 
-/// Why a device was not opened.
+/// No session is open.
+#[derive(Clone, Copy, Debug, PartialEq, Eq)]
+pub struct Closed;
+
+/// Why a device was not opened, in the order in which the refusals are given.
 #[derive(Clone, Copy, Debug, PartialEq, Eq)]
 pub enum OpenFault {
     AlreadyOpen,
+    /// The disk stopped. It comes first, at the journal's opening, or last, at the note of the head.
+    Stopped,
+    /// The disk's bytes are no journal.
+    BadDisk,
+    /// The journal is none of this device's: a queued operation is of another device, or doesn't fit the tree before it.
+    Foreign { known: u32 },
+    Memory,
+}
+
+impl From<JournalFault> for OpenFault {
+    ghost use Rattle.std.specs.Prelude.{◌≡◌};
+    ghost use Rattle.kb_device.specs.Refusals.{fault_of_journal};
+
+    ghost from_gives = { λ f e. e ≡ fault_of_journal f };
+
+    fn from(fault: JournalFault) -> Self {
+        match fault {
+            JournalFault::Stopped => OpenFault::Stopped,
+            JournalFault::BadDisk => OpenFault::BadDisk,
+            JournalFault::Memory => OpenFault::Memory,
+        }
+    }
 }

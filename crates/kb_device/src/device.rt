@@ -1,57 +1,58 @@
 //! A device.
-ghost use Rattle.std.specs.Prelude.{◌≡◌, ◌≤◌, ◌+◌, ◌∷◌, [], ◌++◌, vec_len, OnOk, OnErr};
-ghost use Rattle.kb_ops.specs.Trees as trees;
-ghost use Rattle.kb_ops.specs.Trees.{Fits};
-ghost use Rattle.kb_device.specs.Fresh.{IdsEndAt};
+ghost use Rattle.std.specs.Prelude.{◌≡◌, ◌≤◌, not, is_some, length, None, Some};
+ghost use Rattle.std.specs.Option.{ForSome};
+ghost use Rattle.kb_device.specs.Refusals.{is_stopped};
+ghost use Rattle.kb_device.specs.Running.{IsRunning, IsSized, IsArmed, IsCut, Changes, rested};
 
-use crate::answers::{Called, OpenFault, Refusal, Status};
-use kb_apply::{apply, plan, prepare, show as show_table};
-use kb_edge::Memory;
+use crate::answers::{Called, Closed, OpenFault, Refusal, Status};
+use crate::session::Session;
+use kb_apply::show as show_table;
+use kb_edge::{CrashDisk, Disk, Pick};
 use kb_name::{DeviceName, Moment};
-use kb_ops::{Op, Planned, Request, Show, Shown};
-use kb_tree::Table;
+use kb_ops::{Request, Show, Shown};
 use std::alloc::Global;
 
-/// A device with a tree of its own and the operations that it has queued.
+/// A device with its disk. While a session is open, the session has the disk.
 #[derive(Drop)]
-pub struct Device {
+pub struct Device<D: Disk> {
     number: u16,
     name: DeviceName,
-    table: Table,
-    queue: Vec<Op>,
-    known: u32,
-    last: u32,
-    is_open: bool,
+    resting: Option<D>,
+    session: Option<Session<D>>,
     ghost numbered: { 1 ≤ number },
-    ghost queued: { vec_len queue ≤ last },
-    ghost fresh: { IdsEndAt number last table.tree },
+    ghost one: { is_some resting ≡ not (is_some session) },
+    ghost rests: { ForSome resting (λ disk. IsSized (length (D.content disk))) },
+    ghost runs: { ForSome session (λ session. IsRunning D.Disk number session) },
 }
 
-impl Device {
-    ghost use Rattle.std.specs.Prelude.{◌≡◌, ◌≤◌, true, IfOk, ◌==◌, if◌then◌else◌};
-    ghost use Rattle.kb_edge.specs.Goes.{Goes, Stays};
-    ghost use Rattle.std.specs.Prelude.{length};
+impl<D: Disk> Device<D> {
+    ghost use Rattle.std.specs.Prelude.{◌≡◌, ◌≤◌, ◌∷◌, ℕ, Err, IfOk, replicate};
+    ghost use Rattle.std.specs.Option.{option_map};
+    ghost use Rattle.kb_edge.specs.Goes.{Goes};
+    ghost use Rattle.kb_log.specs.Steps.{IsClean};
     ghost use Rattle.kb_device.specs.Chains.{Chain};
-    ghost use Rattle.kb_device.specs.Refusals.{UnlessMemory};
-    ghost use Rattle.kb_device.specs.Parts.{Part, new_part, last_seq, CallStep, LookStep, OpenStep};
+    ghost use Rattle.kb_device.specs.Disks.{HasFailed, disk_of};
+    ghost use Rattle.kb_device.specs.Openings.{OpenCause};
+    ghost use Rattle.kb_device.specs.Parts.{Part, new_part, CallStep, LookStep, StatusStep, OpenStep, Lowered};
+    ghost use Rattle.kb_device.specs.Refusals.{UnlessMemory, IsOpening};
     ghost use Rattle.kb_device.specs.Stands.{DeviceStands, DeviceGoes, DeviceStays};
 
-    /// A closed device with this number, from 1.
-    pub fn new(alloc: Global, number: u16, name: DeviceName) -> Result<Device, Memory>
-        requires { 1 ≤ number }
-        ensures stands { IfOk result (λ device. (chain : Chain) → DeviceStands chain device new_part) }
-        ensures number { IfOk result (λ device. device.number ≡ number) }
-        ensures name { IfOk result (λ device. device.name ≡ name) }
+    /// A closed device with this number, from 1, and a disk of 4,096 to 16,777,216 bytes. On a disk of zeros without
+    /// dirty places that never stops, it is a new one.
+    pub fn new(number: u16, name: DeviceName, disk: D) -> Device<D>
+        requires numbered { 1 ≤ number }
+        requires sized { IsSized (length (D.content disk)) }
+        ensures stands { (size : ℕ) (chain : Chain) → D.content disk ≡ replicate size 0 → IsClean (D.dirty disk) → D.left disk ≡ None
+            → DeviceStands chain result (new_part size) }
+        ensures number { result.number ≡ number }
+        ensures name { result.name ≡ name }
     {
-        Ok(Device {
+        Device {
             number,
             name,
-            table: Table::new(alloc)?,
-            queue: Vec::new(alloc),
-            known: 0,
-            last: 0,
-            is_open: false,
-        })
+            resting: Some(disk),
+            session: None,
+        }
     }
 
     /// The number that the device was declared with, from 1.
@@ -67,47 +68,27 @@ impl Device {
         &self.name
     }
 
-    /// Opens a session, where the folder has so many revisions.
-    pub fn open(&mut self, revisions: u32) -> Result<Status, OpenFault>
-        ensures step { (chain : Chain) → revisions ≡ length chain → Goes (DeviceStands chain) self.old self.new (λ p q. OpenStep chain p result q) }
+    /// Opens a session on the disk's journal, where the folder has one revision.
+    pub fn open(&mut self, alloc: Global) -> Result<Status, OpenFault>
+        ensures step { IsOpening result → (chain : Chain) → length chain ≡ 1 → Goes (DeviceStands chain) self.old self.new (λ p q. OpenStep chain p result q) }
+        ensures memory { result ≡ Err OpenFault.Memory → DeviceGoes self.old self.new Lowered }
+        ensures cause { OpenCause D.Disk self.old.number self.old.session (disk_of self.old) (disk_of self.new) result }
         ensures number { self.new.number ≡ self.old.number }
         ensures name { self.new.name ≡ self.old.name }
     {
-        if self.is_open {
+        let Some(disk) = self.resting.take() else {
             return Err(OpenFault::AlreadyOpen);
-        }
-        self.known = self.caught_up(revisions);
-        self.is_open = true;
-        Ok(self.status())
-    }
-
-    // The head becomes known where no operation waits.
-    fn caught_up(&self, revisions: u32) -> u32
-        ensures { result ≡ if vec_len self.now.queue == 0 then revisions else self.now.known }
-    {
-        if self.queue.is_empty() {
-            revisions
-        } else {
-            self.known
-        }
-    }
-
-    fn queue_len(&self) -> u32
-        ensures { result ≡ vec_len self.now.queue }
-    {
-        let _last = self.last;
-        self.queue.len() as u32
-    }
-
-    fn status(&self) -> Status
-        ensures at { result.at ≡ self.now.known }
-        ensures queue { result.queue ≡ vec_len self.now.queue }
-        ensures last { result.last ≡ self.now.last }
-    {
-        Status {
-            at: self.known,
-            queue: self.queue_len(),
-            last: self.last,
+        };
+        match Session::open(alloc, self.number, disk) {
+            Ok(session) => {
+                let status = session.status();
+                fill(&mut self.session, session);
+                Ok(status)
+            }
+            Err((disk, fault)) => {
+                fill(&mut self.resting, disk);
+                Err(fault)
+            }
         }
     }
 
@@ -115,15 +96,28 @@ impl Device {
     pub fn show(&self, alloc: Global, show: &Show) -> Result<Shown, Refusal>
         ensures { UnlessMemory result ((chain : Chain) (p : Part) → DeviceStands chain self.now p → LookStep p show.now result) }
     {
-        if !self.is_open {
-            return Err(Refusal::Closed);
+        match &self.session {
+            None => Err(Refusal::Closed),
+            Some(session) => {
+                let known = session.journal.known();
+                let shown = show_table(alloc, &session.table, show, known, session.queue_len())?;
+                Ok(shown)
+            }
         }
-        let shown = show_table(alloc, &self.table, show, self.known, self.queue_len())?;
-        Ok(shown)
     }
 
-    /// Does a file call at this moment: its operation changes the tree and stands behind the queue before it is
-    /// acknowledged.
+    /// What the device tells of its journal.
+    pub fn status(&self) -> Result<Status, Closed>
+        ensures { (chain : Chain) (p : Part) → DeviceStands chain self.now p → StatusStep p result }
+    {
+        match &self.session {
+            None => Err(Closed),
+            Some(session) => Ok(session.status()),
+        }
+    }
+
+    /// Does a file call at this moment: its operation stands in the journal before it is acknowledged. Where the disk stops,
+    /// the session ends.
     pub fn call(
         &mut self,
         alloc: Global,
@@ -132,60 +126,93 @@ impl Device {
     ) -> Result<Called, Refusal>
         ensures step { UnlessMemory result (DeviceGoes self.old self.new (λ p q. CallStep self.old.number p request.now moment result q)) }
         ensures memory { result ≡ Err Refusal.Memory → DeviceStays self.old self.new }
+        ensures rose { result ≡ Err Refusal.Stopped → HasFailed self.old self.new }
         ensures number { self.new.number ≡ self.old.number }
         ensures name { self.new.name ≡ self.old.name }
     {
-        if !self.is_open {
+        let Some(session) = &mut self.session else {
             return Err(Refusal::Closed);
+        };
+        let answer = session.call(alloc, self.number, request, moment);
+        if !has_stopped(&answer) {
+            return answer;
         }
-        if self.last == u32::MAX {
-            return self.call_without_seq(alloc, request, moment);
-        }
-        let seq = self.last + 1;
-        match plan(alloc, &self.table, request, self.number, seq, moment) {
-            Err(fault) => Err(Refusal::from(fault)),
-            Ok(Planned::Same) => Ok(Called::Same),
-            Ok(Planned::Made(op)) => match queue_op(alloc, &mut self.table, &mut self.queue, op) {
-                Err(Memory) => Err(Refusal::Memory),
-                Ok(()) => {
-                    self.last = seq;
-                    Ok(Called::Done { seq })
-                }
-            },
-        }
-    }
-
-    // A file call where no seq is left: what would be an operation is refused.
-    fn call_without_seq(
-        &self,
-        alloc: Global,
-        request: &Request,
-        moment: Moment,
-    ) -> Result<Called, Refusal>
-        requires open { self.now.is_open ≡ true }
-        requires spent { self.now.last ≡ last_seq }
-        ensures { UnlessMemory result (DeviceGoes self.now self.now (λ p q. CallStep self.now.number p request.now moment result q)) }
-    {
-        match plan(alloc, &self.table, request, self.number, self.last, moment) {
-            Err(fault) => Err(Refusal::from(fault)),
-            Ok(Planned::Same) => Ok(Called::Same),
-            Ok(Planned::Made(_)) => Err(Refusal::Spent),
-        }
+        rest(&mut self.session, &mut self.resting);
+        answer
     }
 }
 
-// Applies an operation that fits, and puts it behind the queue. All memory is taken first.
-fn queue_op(alloc: Global, table: &mut Table, queue: &mut Vec<Op>, op: Op) -> Result<(), Memory>
-    requires { Fits op table.old.tree }
-    ensures table { OnOk result (table.new.tree ≡ trees.apply op table.old.tree) }
-    ensures queue { OnOk result (queue.new.items ≡ queue.old.items ++ op ∷ []) }
-    ensures len { OnOk result (vec_len queue.new ≡ vec_len queue.old + 1) }
-    ensures same_table { OnErr result (table.new.tree ≡ table.old.tree) }
-    ensures same_queue { OnErr result (queue.new.items ≡ queue.old.items) }
-    ensures same_len { OnErr result (vec_len queue.new ≡ vec_len queue.old) }
+impl<D: CrashDisk> Device<D> {
+    ghost use Rattle.std.specs.Prelude.{◌≡◌};
+    ghost use Rattle.kb_device.specs.Parts.{armed, powered};
+    ghost use Rattle.kb_device.specs.Stands.{DeviceGoes};
+
+    /// Arms the disk: after so many further writes and syncs all may fail.
+    pub fn fuse(&mut self, steps: u32)
+        ensures step { DeviceGoes self.old self.new (λ p q. q ≡ armed steps p) }
+        ensures number { self.new.number ≡ self.old.number }
+        ensures name { self.new.name ≡ self.old.name }
+    {
+        match &mut self.session {
+            Some(session) => session.journal.arm(steps),
+            None => arm(&mut self.resting, steps),
+        }
+    }
+
+    /// Ends the session, cuts the disk's power and puts it on again.
+    pub fn power(&mut self, pick: Pick)
+        ensures step { DeviceGoes self.old self.new (λ p q. q ≡ powered p) }
+        ensures number { self.new.number ≡ self.old.number }
+        ensures name { self.new.name ≡ self.old.name }
+    {
+        rest(&mut self.session, &mut self.resting);
+        cut(&mut self.resting, pick);
+    }
+}
+
+// Whether the disk stopped in a call.
+fn has_stopped(answer: &Result<Called, Refusal>) -> bool
+    ensures { result ≡ is_stopped answer.now }
 {
-    let prepared = prepare(alloc, table, &op)?;
-    queue.push(op)?;
-    apply(table, prepared);
-    Ok(())
+    matches!(answer, Err(Refusal::Stopped))
+}
+
+// Puts a value in an empty place.
+fn fill<T>(place: &mut Option<T>, value: T)
+    requires { place.old ≡ None }
+    ensures { place.new ≡ Some value }
+{
+    match place.replace(value) {
+        None => {}
+        Some(_) => unreachable!(),
+    }
+}
+
+// The session ends, and its disk is at rest.
+fn rest<D: Disk>(session: &mut Option<Session<D>>, resting: &mut Option<D>)
+    requires { is_some resting.old ≡ not (is_some session.old) }
+    ensures ended { session.new ≡ None }
+    ensures disk { resting.new ≡ rested session.old resting.old }
+{
+    if let Some(ended) = session.take() {
+        fill(resting, ended.journal.finish());
+    }
+}
+
+// Arms the disk.
+fn arm<D: CrashDisk>(resting: &mut Option<D>, steps: u32)
+    ensures { Changes D.Disk (IsArmed D.Disk steps) resting.old resting.new }
+{
+    if let Some(disk) = resting {
+        disk.arm(steps);
+    }
+}
+
+// Cuts the power of the disk.
+fn cut<D: CrashDisk>(resting: &mut Option<D>, pick: Pick)
+    ensures { Changes D.Disk (IsCut D.Disk) resting.old resting.new }
+{
+    if let Some(disk) = resting {
+        disk.power(pick);
+    }
 }

@@ -1,8 +1,11 @@
-//! A device: its tree, its queue, and the calls that it answers.
+//! A device: a journal on its disk, the tree that it shows, and the calls that it answers.
 #![tactic(auto)]
 
 mod answers;
 mod device;
+mod session;
+#[cfg(test)]
+mod tests;
 
-pub use answers::{Called, OpenFault, Refusal, Status};
+pub use answers::{Called, Closed, OpenFault, Refusal, Status};
 pub use device::Device;

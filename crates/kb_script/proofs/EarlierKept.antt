@@ -3,7 +3,7 @@ use Rattle.std.proofs.Common.{◌≡◌, ℕ, Bool, List, [], ◌∷◌, ◌++�
 use Rattle.std.specs.List.{list_any}
 use Rattle.std.proofs.lemmas.List.{reverse-append}
 use Rattle.kb_script.specs.declared.statements.Statement.{Statement}
-use Rattle.kb_script.specs.declared.statements.Statement.TheVariants.{Device, Found, At, Open, File, Look}
+use Rattle.kb_script.specs.declared.statements.Statement.TheVariants.{Device, Found, At, Open, Status, Fuse, Power, File, Look}
 use Rattle.kb_script.specs.Fit.{IsFit, AllFit, AllFitFrom, declared_after, found_after}
 use Rattle.kb_script.specs.Seen.{Known}
 use Rattle.kb_script.specs.Earlier.{known_of, after, declared, is_found, AllFitBack}
@@ -13,6 +13,9 @@ known_step earlier (Device name size) = refl
 known_step earlier (Found d) = refl
 known_step earlier (At m) = refl
 known_step earlier (Open d) = refl
+known_step earlier (Status d) = refl
+known_step earlier (Fuse d n) = refl
+known_step earlier (Power d p) = refl
 known_step earlier (File d r) = refl
 known_step earlier (Look d r) = refl
 
@@ -35,6 +38,9 @@ counted (Device name size) earlier = length-append (declared earlier) (name ∷ 
 counted (Found d) earlier = refl
 counted (At m) earlier = refl
 counted (Open d) earlier = refl
+counted (Status d) earlier = refl
+counted (Fuse d n) earlier = refl
+counted (Power d p) earlier = refl
 counted (File d r) earlier = refl
 counted (Look d r) earlier = refl
 
@@ -43,6 +49,9 @@ founded (Device name size) earlier = refl
 founded (Found d) earlier = refl
 founded (At m) earlier = refl
 founded (Open d) earlier = refl
+founded (Status d) earlier = refl
+founded (Fuse d n) earlier = refl
+founded (Power d p) earlier = refl
 founded (File d r) earlier = refl
 founded (Look d r) earlier = refl
 

@@ -13,7 +13,7 @@ use Rattle.kb_script.specs.declared.verbs.Verb.TheVariants as verb
 use Rattle.kb_script.specs.declared.statements.Statement.{Statement}
 use Rattle.kb_script.specs.declared.statements.Statement.TheVariants as statement
 use Rattle.kb_script.specs.Lines.{word}
-use Rattle.kb_script.specs.Words.{is_number_in, value, is_data, bytes_in}
+use Rattle.kb_script.specs.Words.{is_number_in, value, is_data, bytes_in, pick_of}
 use Rattle.kb_script.specs.Table.{Want, Number, NewDevice, OldDevice, DataWord, OneOf, forms}
 use Rattle.kb_script.specs.Seen.{Known, is_declared, number_of, is_second, may_stand}
 
@@ -59,6 +59,9 @@ said k verb.Device ws = statement.Device (word ws 1) (value (word ws 2))
 said k verb.Found ws = statement.Found (number_of k (word ws 1))
 said k verb.At ws = statement.At (value (word ws 1))
 said k verb.Open ws = statement.Open (number_of k (word ws 1))
+said k verb.Status ws = statement.Status (number_of k (word ws 1))
+said k verb.Fuse ws = statement.Fuse (number_of k (word ws 1)) (value (word ws 2))
+said k verb.Power ws = statement.Power (number_of k (word ws 1)) (pick_of (word ws 2))
 said k verb.Mkdir ws = statement.File (number_of k (word ws 1)) (request.Mkdir (word ws 2))
 said k verb.Mkfile ws = statement.File (number_of k (word ws 1)) (request.Mkfile (word ws 2))
 said k verb.Link ws = statement.File (number_of k (word ws 1)) (request.Link (word ws 2) (bytes_in (word ws 3)))

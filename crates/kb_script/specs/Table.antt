@@ -4,13 +4,16 @@ use Rattle.std.specs.List.{list_any}
 use Rattle.std.specs.Str.{bytes_eq}
 use Rattle.kb_name.specs.Moments.{last_second}
 use Rattle.kb_script.specs.declared.verbs.Verb.{Verb}
-use Rattle.kb_script.specs.declared.verbs.Verb.TheVariants.{Device, Found, At, Open, Mkdir, Mkfile, Link, Remove, Move, Write, Cut, Chmod, Touch, Cat, Ls, Tree, Stat}
+use Rattle.kb_script.specs.declared.verbs.Verb.TheVariants.{Device, Found, At, Open, Status, Fuse, Power, Mkdir, Mkfile, Link, Remove, Move, Write, Cut, Chmod, Touch, Cat, Ls, Tree, Stat}
 
 abbrev pub spelling : Verb → List ℕ
 spelling Device = codes "device"
 spelling Found = codes "found"
 spelling At = codes "at"
 spelling Open = codes "open"
+spelling Status = codes "status"
+spelling Fuse = codes "fuse"
+spelling Power = codes "power"
 spelling Mkdir = codes "mkdir"
 spelling Mkfile = codes "mkfile"
 spelling Link = codes "link"
@@ -26,7 +29,7 @@ spelling Tree = codes "tree"
 spelling Stat = codes "stat"
 
 abbrev pub verbs : List Verb
-verbs = Device ∷ Found ∷ At ∷ Open ∷ Mkdir ∷ Mkfile ∷ Link ∷ Remove ∷ Move ∷ Write ∷ Cut ∷ Chmod ∷ Touch ∷ Cat ∷ Ls ∷ Tree ∷ Stat ∷ []
+verbs = Device ∷ Found ∷ At ∷ Open ∷ Status ∷ Fuse ∷ Power ∷ Mkdir ∷ Mkfile ∷ Link ∷ Remove ∷ Move ∷ Write ∷ Cut ∷ Chmod ∷ Touch ∷ Cat ∷ Ls ∷ Tree ∷ Stat ∷ []
 
 -- the statement that a first word names
 abbrev pub verb_of : List ℕ → Option Verb
@@ -34,7 +37,7 @@ verb_of w = find (λ v. bytes_eq w (spelling v)) verbs
 
 -- the first words of statements that aren't built yet
 abbrev pub later_words : List (List ℕ)
-later_words = codes "seed" ∷ codes "grant" ∷ codes "revoke" ∷ codes "pick" ∷ codes "land" ∷ codes "note" ∷ codes "flush" ∷ codes "drain" ∷ codes "pull" ∷ codes "fetch" ∷ codes "status" ∷ codes "settle" ∷ codes "resolve" ∷ codes "fuse" ∷ codes "power" ∷ codes "folder" ∷ codes "verify" ∷ []
+later_words = codes "seed" ∷ codes "grant" ∷ codes "revoke" ∷ codes "pick" ∷ codes "land" ∷ codes "note" ∷ codes "flush" ∷ codes "drain" ∷ codes "pull" ∷ codes "fetch" ∷ codes "settle" ∷ codes "resolve" ∷ codes "folder" ∷ codes "verify" ∷ []
 
 -- those of a block, which are no words where a block may not stand
 abbrev pub block_words : List (List ℕ)
@@ -55,12 +58,19 @@ pub data Want : Type 0 where
 abbrev pub last_u32 : ℕ
 last_u32 = 4294967295
 
+-- what a power cut leaves, by its word
+abbrev pub pick_words : List (List ℕ)
+pick_words = codes "old" ∷ codes "new" ∷ codes "noise" ∷ []
+
 -- the forms of a statement
 abbrev pub forms : Verb → List (List Want)
 forms Device = (NewDevice ∷ Number 4096 16777216 ∷ []) ∷ []
 forms Found = (OldDevice ∷ []) ∷ []
 forms At = (Number 0 last_second ∷ []) ∷ []
 forms Open = (OldDevice ∷ []) ∷ []
+forms Status = (OldDevice ∷ []) ∷ []
+forms Fuse = (OldDevice ∷ Number 0 last_u32 ∷ []) ∷ []
+forms Power = (OldDevice ∷ OneOf pick_words ∷ []) ∷ []
 forms Mkdir = (OldDevice ∷ AnyPath ∷ []) ∷ []
 forms Mkfile = (OldDevice ∷ AnyPath ∷ []) ∷ []
 forms Link = (OldDevice ∷ AnyPath ∷ DataWord ∷ []) ∷ []
@@ -84,8 +94,11 @@ pub data Place : Type 0 where
 abbrev pub place : Verb → Place
 place Device = Anywhere
 place At = Anywhere
+place Fuse = Anywhere
 place Found = Once
 place Open = Behind
+place Status = Behind
+place Power = Behind
 place Mkdir = Behind
 place Mkfile = Behind
 place Link = Behind

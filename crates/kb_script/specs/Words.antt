@@ -1,9 +1,12 @@
 -- What single words are.
-use Rattle.std.specs.Prelude.{ℕ, Bool, not, ◌&&◌, ◌||◌, ◌==◌, nat_le, List, length, drop, slice_index, if◌then◌else◌, Result, Ok, Err}
+use Rattle.std.specs.Prelude.{ℕ, Bool, not, ◌&&◌, ◌||◌, ◌==◌, nat_le, List, length, drop, slice_index, codes, if◌then◌else◌, Result, Ok, Err}
 use Rattle.std.specs.Char.{is_ascii_digit}
 use Rattle.std.specs.List.{list_all}
+use Rattle.std.specs.Str.{bytes_eq}
 use Rattle.std.specs.Str.Parse.{digits_value}
 use Rattle.percent_encoding.specs.Percent.{percent_decode}
+use Rattle.kb_edge.specs.declared.disk.Pick.{Pick}
+use Rattle.kb_edge.specs.declared.disk.Pick.TheVariants.{Old, New, Noise}
 use Rattle.kb_script.specs.declared.faults.Why.{Why}
 use Rattle.kb_script.specs.declared.faults.Why.TheVariants.{Number, Choice}
 
@@ -26,6 +29,10 @@ is_data w = slice_index w 0 == 61
 
 abbrev pub bytes_in : List ℕ → List ℕ
 bytes_in w = percent_decode (drop 1 w)
+
+-- what a power cut leaves
+abbrev pub pick_of : List ℕ → Pick
+pick_of w = if bytes_eq w (codes "old") then Old else if bytes_eq w (codes "new") then New else Noise
 
 -- what the calls answer for such a word
 abbrev pub number_answer : ℕ → ℕ → List ℕ → Result ℕ Why

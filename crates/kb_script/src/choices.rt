@@ -1,11 +1,12 @@
 ghost use Rattle.std.specs.Prelude.{◌≡◌};
 ghost use Rattle.kb_script.specs.Seen.{known};
-ghost use Rattle.kb_script.specs.Choices.{fresh_answer, exec_answer};
+ghost use Rattle.kb_script.specs.Choices.{fresh_answer, exec_answer, pick_answer};
 ghost use Rattle.kb_script.specs.Gives.{GivesLine};
 
 use super::faults::{LineFault, Why};
 use super::standing::is_declared;
 use super::state::Seen;
+use kb_edge::Pick;
 use kb_name::{DeviceName, NameFault};
 use std::alloc::Global;
 
@@ -30,6 +31,18 @@ pub fn is_exec(word: &str) -> Result<bool, LineFault>
     match word {
         "x" => Ok(true),
         "-" => Ok(false),
+        _ => Err(LineFault::Bad(Why::Choice)),
+    }
+}
+
+/// What a power cut leaves.
+pub fn pick(word: &str) -> Result<Pick, LineFault>
+    ensures { GivesLine (λ p. p) result (pick_answer word.now) }
+{
+    match word {
+        "old" => Ok(Pick::Old),
+        "new" => Ok(Pick::New),
+        "noise" => Ok(Pick::Noise),
         _ => Err(LineFault::Bad(Why::Choice)),
     }
 }

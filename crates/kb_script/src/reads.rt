@@ -6,7 +6,7 @@ ghost use Rattle.kb_script.specs.Seen.{known};
 ghost use Rattle.kb_script.specs.Reasons.{answer};
 ghost use Rattle.kb_script.specs.Gives.{GivesLine};
 
-use super::choices::{fresh, is_exec};
+use super::choices::{fresh, is_exec, pick};
 use super::cuts::{count, word};
 use super::faults::{LineFault, Why};
 use super::standing::{device, in_order};
@@ -68,6 +68,44 @@ pub fn open(seen: &Seen, words: &[&str]) -> Result<Statement, LineFault>
     let device = device(seen, word(words, 1))?;
     in_order(seen, Verb::Open)?;
     Ok(Statement::Open { device })
+}
+
+pub fn status(seen: &Seen, words: &[&str]) -> Result<Statement, LineFault>
+    ensures value { GivesLine (λ s. s) result (answer (known seen.now) Verb.Status (texts words.now)) }
+    ensures fit { IfOk result (λ s. IsFit (vec_len seen.now.devices) seen.now.found s) }
+{
+    if count(words) != 2 {
+        return Err(LineFault::Bad(Why::Count));
+    }
+    let device = device(seen, word(words, 1))?;
+    in_order(seen, Verb::Status)?;
+    Ok(Statement::Status { device })
+}
+
+pub fn fuse(seen: &Seen, words: &[&str]) -> Result<Statement, LineFault>
+    ensures value { GivesLine (λ s. s) result (answer (known seen.now) Verb.Fuse (texts words.now)) }
+    ensures fit { IfOk result (λ s. IsFit (vec_len seen.now.devices) seen.now.found s) }
+{
+    if count(words) != 3 {
+        return Err(LineFault::Bad(Why::Count));
+    }
+    let steps = small(word(words, 2))?;
+    let device = device(seen, word(words, 1))?;
+    in_order(seen, Verb::Fuse)?;
+    Ok(Statement::Fuse { device, steps })
+}
+
+pub fn power(seen: &Seen, words: &[&str]) -> Result<Statement, LineFault>
+    ensures value { GivesLine (λ s. s) result (answer (known seen.now) Verb.Power (texts words.now)) }
+    ensures fit { IfOk result (λ s. IsFit (vec_len seen.now.devices) seen.now.found s) }
+{
+    if count(words) != 3 {
+        return Err(LineFault::Bad(Why::Count));
+    }
+    let pick = pick(word(words, 2))?;
+    let device = device(seen, word(words, 1))?;
+    in_order(seen, Verb::Power)?;
+    Ok(Statement::Power { device, pick })
 }
 
 pub fn mkdir(alloc: Global, seen: &Seen, words: &[&str]) -> Result<Statement, LineFault>

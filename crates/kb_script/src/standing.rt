@@ -56,7 +56,7 @@ fn may_stand(seen: &Seen, verb: Verb) -> bool
     ensures { result ≡ may_stand (known seen.now) verb }
 {
     match verb {
-        Verb::Device | Verb::At => true,
+        Verb::Device | Verb::At | Verb::Fuse => true,
         Verb::Found => !seen.found,
         _ => seen.found,
     }

@@ -1,3 +1,4 @@
+use kb_edge::Pick;
 use kb_name::{DeviceName, Moment};
 use kb_ops::{Request, Show};
 
@@ -11,6 +12,11 @@ pub enum Statement {
     /// Sets the moment of what follows.
     At { moment: Moment },
     Open { device: u16 },
+    Status { device: u16 },
+    /// Arms the device's disk: after so many further writes and syncs all fails.
+    Fuse { device: u16, steps: u32 },
+    /// Cuts the power.
+    Power { device: u16, pick: Pick },
     File { device: u16, request: Request },
     Look { device: u16, show: Show },
 }

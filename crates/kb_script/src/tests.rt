@@ -56,6 +56,24 @@ fn reasons(rt: HostRuntime) -> Result<(), Fail> {
 }
 
 #[test]
+fn disks(rt: HostRuntime) -> Result<(), Fail> {
+    let alloc = rt.alloc();
+    let whole =
+        "device a 4096\nfuse a 4294967295\nfound a\npower a old\npower a new\npower a noise\nstatus a\nfuse a 0";
+    assert_eq!(rt; read(alloc, whole, false)?, (8, None));
+    let past = "device a 4096\nfuse a 4294967296";
+    assert_eq!(rt; read(alloc, past, false)?, (2, Some(Why::Number)));
+    assert_eq!(rt; read(alloc, "fuse a 1", false)?, (1, Some(Why::Device)));
+    assert_eq!(rt; read(alloc, "power a off", false)?, (1, Some(Why::Choice)));
+    let status = "device a 4096\nstatus a";
+    assert_eq!(rt; read(alloc, status, false)?, (2, Some(Why::Order)));
+    let power = "device a 4096\npower a old";
+    assert_eq!(rt; read(alloc, power, false)?, (2, Some(Why::Order)));
+    assert_eq!(rt; read(alloc, "status", false)?, (1, Some(Why::Count)));
+    Ok(())
+}
+
+#[test]
 fn texts(rt: HostRuntime) -> Result<(), Fail> {
     let alloc = rt.alloc();
     let bad = parse(alloc, b"at 5\n#\xff\n", false);

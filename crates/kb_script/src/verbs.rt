@@ -8,6 +8,9 @@ pub enum Verb {
     Found,
     At,
     Open,
+    Status,
+    Fuse,
+    Power,
     Mkdir,
     Mkfile,
     Link,
@@ -32,6 +35,9 @@ pub fn verb_of(word: &str) -> Option<Verb>
         "found" => Some(Verb::Found),
         "at" => Some(Verb::At),
         "open" => Some(Verb::Open),
+        "status" => Some(Verb::Status),
+        "fuse" => Some(Verb::Fuse),
+        "power" => Some(Verb::Power),
         "mkdir" => Some(Verb::Mkdir),
         "mkfile" => Some(Verb::Mkfile),
         "link" => Some(Verb::Link),
@@ -64,11 +70,8 @@ pub fn is_later_word(live: bool, word: &str) -> bool
         | "drain"
         | "pull"
         | "fetch"
-        | "status"
         | "settle"
         | "resolve"
-        | "fuse"
-        | "power"
         | "folder"
         | "verify" => true,
         "par" | "caller" | "flusher" | "end" => live,

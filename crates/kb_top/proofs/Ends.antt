@@ -3,6 +3,7 @@ use Rattle.std.proofs.Common.{◌≡◌, ◌≤◌, ◌+◌, Vec, Global, ℕ, f
 use Rattle.std.proofs.lemmas.List.{take_all}
 use Rattle.std.proofs.Math.ListN.{length-take}
 use Rattle.kb_edge.specs.Causes.{Rose}
+use Rattle.kb_edge.specs.declared.disk.Disk.{Ghosts}
 use Rattle.kb_script.specs.declared.statements.Statement.{Statement}
 use Rattle.kb_script.specs.declared.faults.ScriptFault.{ScriptFault}
 use Rattle.kb_script.specs.declared.faults.ScriptFault.TheVariants as fault
@@ -19,11 +20,11 @@ use Rattle.kb_top.specs.declared.status.Status.TheVariants.{Done, Usage, Script,
 use Rattle.kb_top.proofs.Runs.{Appends-none}
 
 -- want of memory before anything ran
-pub ended_new : (world : World) (held : Option (List ℕ)) → WorldStands world new_state → (source : Option (List ℕ)) → Headline WorldStands world held held source Memory
+pub ended_new : {M D : Type 0} {disks : Ghosts D} (world : World M D disks) (held : Option (List ℕ)) → WorldStands world new_state → (source : Option (List ℕ)) → Headline WorldStands world held held source Memory
 ended_new world held h source = inl (record { stands_for = h; bytes = Appends-none held })
 
 -- that the bytes are no script was told, or a beginning of it, or memory ran out
-told_headline : (world : World) (before now source : Option (List ℕ)) (bytes : List ℕ) (f : ScriptFault) (status : Status) → WorldStands world new_state → IsInput source bytes → HasFault bytes f
+told_headline : {M D : Type 0} {disks : Ghosts D} (world : World M D disks) (before now source : Option (List ℕ)) (bytes : List ℕ) (f : ScriptFault) (status : Status) → WorldStands world new_state → IsInput source bytes → HasFault bytes f
     → IsTold before now (fault_text f) status → Headline WorldStands world before now source status
 told_headline world before now source bytes f Done h input has told = absurd told
 told_headline world before now source bytes f Usage h input has told = absurd told
@@ -32,7 +33,7 @@ told_headline world before now source bytes f Script h input has told = (bytes, 
 told_headline world before now source bytes f WriteFault h input has told = inl (bytes, f, input, has, (told.0, record { stands_for = h; bytes = told.1 }))
 told_headline world before now source bytes f Memory h input has told = inl (record { stands_for = h; bytes = told })
 
-pub tells_headline : (world : World) (before now source : Option (List ℕ)) (bytes text : List ℕ) (f : ScriptFault) (status : Status) → WorldStands world new_state → IsInput source bytes → text ≡ bytes
+pub tells_headline : {M D : Type 0} {disks : Ghosts D} (world : World M D disks) (before now source : Option (List ℕ)) (bytes text : List ℕ) (f : ScriptFault) (status : Status) → WorldStands world new_state → IsInput source bytes → text ≡ bytes
     → ReadsScript {X = Vec Statement Global} (λ v. v.items) false text (Err f) → IsTold before now (fault_text f) status → (f ≡ fault.Memory → status ≡ Memory) → Headline WorldStands world before now source status
 tells_headline world before now source bytes text fault.TooLong status h input same has told memory =
     told_headline world before now source bytes fault.TooLong status h input (subst (λ l. HasFault l fault.TooLong) same has) told

@@ -1,18 +1,22 @@
 -- Runs go on, statement by statement.
-use Rattle.std.proofs.Common.{◌≡◌, ◌≤◌, ℕ, zero, suc, ◌+◌, Bool, false, List, [], ◌∷◌, ◌++◌, length, take, Option, Some, None, refl, sym, ap, ◌∙◌, subst, append_assoc, append-nil, add-one, arith}
-use Rattle.std.specs.Prelude.{slice_get, nat_lt}
+use Rattle.std.proofs.Common.{◌≡◌, ◌≤◌, ℕ, zero, suc, ◌+◌, Bool, true, false, cond, List, [], ◌∷◌, ◌++◌, take, Option, Some, None, refl, sym, ap, ◌∙◌, subst, append_assoc, append-nil, add-one, arith}
+use Rattle.std.specs.Prelude.{slice_get}
 use Rattle.std.specs.Io.KnownBytes.{Appends}
-use Rattle.kb_edge.specs.Goes.{Goes, Stays}
-use Rattle.kb_device.specs.Chains.{Chain}
-use Rattle.kb_device.specs.declared.device.Device.{Device}
-use Rattle.kb_world.specs.Stands.{WorldStands, MembersStand, device_count, is_founded}
+use Rattle.std.proofs.lemmas.List.Elements.{All-take, All-nil}
+use Rattle.kb_edge.specs.Goes.{Goes}
+use Rattle.kb_edge.specs.declared.disk.Disk.{Ghosts}
+use Rattle.kb_world.specs.Stands.{WorldStands, device_count, is_founded}
 use Rattle.kb_world.specs.declared.world.World.{World}
 use Rattle.kb_script.specs.declared.statements.Statement.{Statement}
 use Rattle.kb_script.specs.Fit.{IsFit, AllFitFrom, declared_after, found_after}
 use Rattle.kb_lines.specs.declared.lines.Line.{Line}
 use Rattle.kb_lines.specs.LineTexts.{text_of_all}
-use Rattle.kb_world.specs.Machine.{State, new_state, Run, Steps, Begins}
-use Rattle.kb_world.proofs.OwnedRuns.{begins_keeps, steps_keep}
+use Rattle.kb_world.specs.Machine.{State, new_state, Run, Steps, Ends, next as next_act}
+use Rattle.kb_world.proofs.OwnedRuns.{ends_keep, steps_keep}
+use Rattle.kb_world.proofs.UnfusedRuns.{unfused}
+use Rattle.kb_world.proofs.StatementParts.{lack_none}
+use Rattle.kb_world.proofs.Members.{none_there}
+use Rattle.kb_world.specs.Unfused.{HasNoFuse, ArmsNone}
 use Rattle.kb_top.specs.Outcomes.{Ran, Ended, Cut, text_of_each}
 
 -- how many devices are declared after statements, and whether the folder is founded
@@ -75,21 +79,19 @@ fit_at count found [] n statement fit e = cc
 fit_at count found (first ∷ statements) zero statement fit e = let same : first ≡ statement = cc in subst (λ s. IsFit count found s) same fit.0
 fit_at count found (first ∷ statements) (suc n) statement fit e = fit_at (declared_after count first) (found_after found first) statements n statement fit.1 e
 
-no_devices : (c : Chain) (n : ℕ) (devices : List Device) → MembersStand c n devices [] → length devices ≡ 0
-no_devices c n [] h = refl
-no_devices c n (device ∷ devices) h = absurd h
+pub none_declared : {M D : Type 0} {disks : Ghosts D} (world : World M D disks) → WorldStands world new_state → device_count world ≡ 0
+none_declared world h = none_there [] 1 world.devices.items h.members
 
--- a new world has no device, and its folder isn't founded
-pub none_declared : (world : World) → WorldStands world new_state → device_count world ≡ 0
-none_declared world h = no_devices [] 1 world.devices.items h.members
-
-pub not_founded : (world : World) → WorldStands world new_state → is_founded world ≡ false
-not_founded world h = ap (λ n. nat_lt 0 n) h.chain
+pub not_founded : {M D : Type 0} {disks : Ghosts D} (world : World M D disks) → WorldStands world new_state → is_founded world ≡ false
+not_founded world h = off world.founded h.chain where
+  off : (b : Bool) → ◌≡◌ {A = ℕ} 0 (cond b 1 0) → b ≡ false
+  off true e = absurd (omega (arith, e))
+  off false e = refl
 
 module _ {W : Type 0} (stands : W → State → Type 0) (count : W → ℕ) (founded : W → Bool) where
   pub none_ran : (world : W) (held : Option (List ℕ)) (faults : ℕ) → stands world new_state → count world ≡ 0 → founded world ≡ false → IsRunning stands count founded world held held faults faults []
   none_ran world held faults is empty none =
-      record { ran = record { each = []; state = new_state; run = refl; stands_for = is; owned = tt; bytes = Appends-none held }; declared = empty; found = none; later = omega arith }
+      record { ran = record { each = []; state = new_state; run = refl; stands_for = is; owned = tt; unfused = λ none. All-nil _; bytes = Appends-none held }; declared = empty; found = none; later = omega arith }
 
   module _ (mid world : W) (before held now : Option (List ℕ)) (first second third : ℕ) (statements : List Statement) (n : ℕ) (statement : Statement) (next : slice_get statements n ≡ Some statement)
       (running : IsRunning stands count founded mid before held first second (take n statements)) where
@@ -107,6 +109,7 @@ module _ {W : Type 0} (stands : W → State → Type 0) (count : W → ℕ) (fou
             run = Run-more new_state (take n statements) ran.each ran.state statement lines moved.0 ran.run moved.1;
             stands_for = moved.2;
             owned = steps_keep ran.state statement lines moved.0 moved.1 ran.owned;
+            unfused = λ none. unfused (take n statements ++ statement ∷ []) (ran.each ++ lines ∷ []) moved.0 none (Run-more new_state (take n statements) ran.each ran.state statement lines moved.0 ran.run moved.1);
             bytes = subst (λ l. Appends before now l) (sym (text_of_each-push ran.each lines)) (Appends-both before held now _ _ ran.bytes put);
           };
           declared = counted ∙ ap (λ k. declared_after k statement) running.declared ∙ sym (declared_push 0 (take n statements) statement);
@@ -114,18 +117,28 @@ module _ {W : Type 0} (stands : W → State → Type 0) (count : W → ℕ) (fou
           later = omega (arith, running.later);
         })
 
-    pub ended : Goes stands mid world (λ s t. Begins s statement t) → Ended stands world before held statements
+    pub ended : Goes stands mid world (λ s t. Ends s statement t) → Ended stands world before held statements
     ended goes =
         let ran = running.ran in
         let moved = goes ran.state ran.stands_for in
-        record { count = n; statement = statement; next = next; each = ran.each; middle = ran.state; run = ran.run; state = moved.0; began = moved.1; stands_for = moved.2; owned = begins_keeps ran.state statement moved.0 moved.1 ran.owned; bytes = ran.bytes }
+        record {
+          count = n;
+          statement = statement;
+          next = next;
+          each = ran.each;
+          middle = ran.state;
+          run = ran.run;
+          state = moved.0;
+          ended = moved.1;
+          stands_for = moved.2;
+          owned = ends_keep ran.state statement moved.0 moved.1 ran.owned;
+          unfused = λ none. unfused (take n statements) ran.each ran.state (All-take ArmsNone n statements none) ran.run;
+          bytes = ran.bytes;
+        }
 
-    -- want of memory ended the next one before it did anything
-    pub ended_still : Stays stands mid world → Ended stands world before held statements
-    ended_still stays = ended (λ s h. (s, ([], refl), stays s h))
-
+    -- want of memory ended the text of the next one
     pub ended_after : (lines : List Line) → Goes stands mid world (λ s t. Steps s statement lines t) → Ended stands world before held statements
-    ended_after lines goes = ended (λ s h. let moved = goes s h in (moved.0, (moved.1.0, moved.1.1), moved.2))
+    ended_after lines goes = ended (λ s h. let moved = goes s h in (moved.0, (moved.1.0, moved.0, moved.1.1, lack_none (next_act statement moved.1.0) moved.0), moved.2))
 
     pub cut : (lines : List Line) → Goes stands mid world (λ s t. Steps s statement lines t) → (put : ℕ) → Appends held now (take put (text_of_all lines)) → Cut stands world before now statements
     cut lines goes put bytes =
@@ -143,6 +156,9 @@ module _ {W : Type 0} (stands : W → State → Type 0) (count : W → ℕ) (fou
           step = moved.1;
           stands_for = moved.2;
           owned = steps_keep ran.state statement lines moved.0 moved.1 ran.owned;
+          unfused = λ none. unfused (take n statements ++ statement ∷ []) (ran.each ++ lines ∷ []) moved.0
+              (subst HasNoFuse (take_slice_get statements n statement next) (All-take ArmsNone (n + 1) statements none))
+              (Run-more new_state (take n statements) ran.each ran.state statement lines moved.0 ran.run moved.1);
           put = put;
           bytes = Appends-both before held now _ _ ran.bytes bytes;
         }

@@ -8,8 +8,9 @@ use Rattle.kb_script.specs.declared.faults.ScriptFault.{ScriptFault}
 use Rattle.kb_script.specs.Scripts.{IsScript}
 use Rattle.kb_lines.specs.declared.lines.Line.{Line}
 use Rattle.kb_lines.specs.LineTexts.{text_of_all}
-use Rattle.kb_world.specs.Machine.{State, new_state, Run, Steps, Begins}
+use Rattle.kb_world.specs.Machine.{State, new_state, Run, Steps, Ends}
 use Rattle.kb_world.specs.Owned.{AllOwned}
+use Rattle.kb_world.specs.Unfused.{HasNoFuse, NoneStops}
 use Rattle.kb_top.specs.Inputs.{IsInput, HasFault, fault_text, TellsScript, TellsNoScript}
 use Rattle.kb_top.specs.declared.status.Status.{Status}
 use Rattle.kb_top.specs.declared.status.Status.TheVariants.{Done, Usage, Script, ReadFault, WriteFault, Memory}
@@ -38,9 +39,10 @@ module _ {W : Type 0} (stands : W → State → Type 0) (world : W) (before now 
     pub run : Run new_state statements each state
     pub stands_for : stands world state
     pub owned : AllOwned state
+    pub unfused : HasNoFuse statements → NoneStops each
     pub bytes : Appends before now (text_of_each each)
 
-  -- the first statements ran, and put their lines; the next one began, and want of memory ended it or its text
+  -- the first statements ran, and put their lines; want of memory ended the next one, or its text
   pub record Ended (statements : List Statement) : Type 0 where
     pub count : ℕ
     pub statement : Statement
@@ -49,9 +51,10 @@ module _ {W : Type 0} (stands : W → State → Type 0) (world : W) (before now 
     pub middle : State
     pub run : Run new_state (take count statements) each middle
     pub state : State
-    pub began : Begins middle statement state
+    pub ended : Ends middle statement state
     pub stands_for : stands world state
     pub owned : AllOwned state
+    pub unfused : HasNoFuse statements → NoneStops each
     pub bytes : Appends before now (text_of_each each)
 
   -- the first statements ran, and put their lines; the next one ran, and put a beginning of its lines
@@ -67,6 +70,7 @@ module _ {W : Type 0} (stands : W → State → Type 0) (world : W) (before now 
     pub step : Steps middle statement lines state
     pub stands_for : stands world state
     pub owned : AllOwned state
+    pub unfused : HasNoFuse statements → NoneStops (each ++ lines ∷ [])
     pub put : ℕ
     pub bytes : Appends before now (text_of_each each ++ take put (text_of_all lines))
 

@@ -10,7 +10,7 @@ ghost use Rattle.kb_top.specs.Outcomes.{RunsTo, Headline, IsComplete, IsTold};
 use crate::input::{ReadEnd, read_all};
 use crate::status::Status;
 use crate::texts::fault_text;
-use kb_edge::{Failed, Memory, Sink, Source};
+use kb_edge::{DiskMaker, Failed, Memory, Sink, Source};
 use kb_lines::render;
 use kb_script::{ScriptFault, Statement, parse};
 use kb_world::World;
@@ -18,11 +18,11 @@ use std::alloc::Global;
 
 /// Reads a script to its end, at most 1,048,577 bytes, runs its statements on a new world, and puts the lines of each
 /// when it is done.
-pub fn run_script<S: Source, K: Sink>(
+pub fn run_script<S: Source, K: Sink, M: DiskMaker>(
     alloc: Global,
     source: &mut S,
     sink: &mut K,
-    world: &mut World,
+    world: &mut World<M>,
 ) -> Status
     requires { WorldStands world.old new_state }
     ensures headline { Headline WorldStands world.new (K.held sink.old) (K.held sink.new) (S.left source.old) result }
@@ -34,11 +34,11 @@ pub fn run_script<S: Source, K: Sink>(
 }
 
 // The same, less that it is complete, which follows.
-fn run_source<S: Source, K: Sink>(
+fn run_source<S: Source, K: Sink, M: DiskMaker>(
     alloc: Global,
     source: &mut S,
     sink: &mut K,
-    world: &mut World,
+    world: &mut World<M>,
 ) -> Status
     requires { WorldStands world.old new_state }
     ensures headline { Headline WorldStands world.new (K.held sink.old) (K.held sink.new) (S.left source.old) result }
@@ -73,11 +73,11 @@ fn refuse<K: Sink>(alloc: Global, fault: ScriptFault, sink: &mut K) -> Status
 }
 
 // Runs statements, and puts the lines of each when it is done.
-fn run_all<K: Sink>(
+fn run_all<K: Sink, M: DiskMaker>(
     alloc: Global,
     statements: &[Statement],
     sink: &mut K,
-    world: &mut World,
+    world: &mut World<M>,
 ) -> Status
     requires new { WorldStands world.old new_state }
     requires fit { AllFit statements.now }

@@ -1,6 +1,7 @@
 //! Whole runs over ends in memory.
 use crate::{Status, run_script, run_words};
 use kb_edge::{MemSink, MemSource};
+use kb_memdisk::Rack;
 use kb_world::World;
 use std::alloc::Global;
 use std::test::Fail;
@@ -29,7 +30,7 @@ fn sink(alloc: Global) -> Result<MemSink, Fail> {
 fn ends(alloc: Global, script: &str, status: Status, text: &str) -> Result<bool, Fail> {
     let mut source = source(alloc, script)?;
     let mut sink = sink(alloc)?;
-    let mut world = World::new(alloc);
+    let mut world = World::new(alloc, Rack);
     let ended = run_script(alloc, &mut source, &mut sink, &mut world);
     Ok(ended == status && sink.bytes() == text.as_bytes())
 }
@@ -62,7 +63,7 @@ fn too_much_is_told(rt: HostRuntime) -> Result<(), Fail> {
     let bytes = vec![in alloc; b'\n'; 1_048_577]?;
     let mut source = MemSource::new(bytes, 65_536, Vec::new(alloc));
     let mut sink = sink(alloc)?;
-    let mut world = World::new(alloc);
+    let mut world = World::new(alloc, Rack);
     let ended = run_script(alloc, &mut source, &mut sink, &mut world);
     assert_eq!(rt; ended, Status::Script);
     assert_eq!(rt; sink.bytes(), b"script too long\n".as_slice());
@@ -75,7 +76,7 @@ fn a_source_fails(rt: HostRuntime) -> Result<(), Fail> {
     let bytes = FIRST.as_bytes().to_vec(alloc)?;
     let mut source = MemSource::new(bytes, 7, [1].to_vec(alloc)?);
     let mut sink = sink(alloc)?;
-    let mut world = World::new(alloc);
+    let mut world = World::new(alloc, Rack);
     let ended = run_script(alloc, &mut source, &mut sink, &mut world);
     assert_eq!(rt; ended.code(), 4);
     assert!(rt; sink.bytes().is_empty());
@@ -90,7 +91,7 @@ fn a_sink_fails(rt: HostRuntime) -> Result<(), Fail> {
         Ok(sink) => sink,
         Err(_) => return Err(Fail::from("no memory for a sink")),
     };
-    let mut world = World::new(alloc);
+    let mut world = World::new(alloc, Rack);
     let ended = run_script(alloc, &mut source, &mut sink, &mut world);
     assert_eq!(rt; ended.code(), 5);
     assert!(rt; sink.bytes().is_empty());
@@ -102,7 +103,7 @@ fn words_choose(rt: HostRuntime) -> Result<(), Fail> {
     let alloc = rt.alloc();
     let mut source = source(alloc, FIRST)?;
     let mut sink = sink(alloc)?;
-    let mut world = World::new(alloc);
+    let mut world = World::new(alloc, Rack);
     let other = vec![in alloc; String::from_str(alloc, "runn")?]?;
     let ended = run_words(alloc, &other, &mut source, &mut sink, &mut world);
     assert_eq!(rt; ended.code(), 2);

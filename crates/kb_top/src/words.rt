@@ -7,18 +7,18 @@ ghost use Rattle.kb_top.specs.Outcomes.{Headline, UsageEnd, IsComplete, IsRun};
 
 use crate::run::run_script;
 use crate::status::Status;
-use kb_edge::{Failed, Sink, Source};
+use kb_edge::{DiskMaker, Failed, Sink, Source};
 use kb_world::World;
 use std::alloc::Global;
 
 /// Does what the words of a command line ask for, without the program's name: `run` runs the script of the source. For
 /// other words the usage is put, and nothing is run.
-pub fn run_words<S: Source, K: Sink>(
+pub fn run_words<S: Source, K: Sink, M: DiskMaker>(
     alloc: Global,
     words: &[String],
     source: &mut S,
     sink: &mut K,
-    world: &mut World,
+    world: &mut World<M>,
 ) -> Status
     requires { WorldStands world.old new_state }
     ensures run { IsRun words.now → Headline WorldStands world.new (K.held sink.old) (K.held sink.new) (S.left source.old) result }

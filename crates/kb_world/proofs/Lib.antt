@@ -1,4 +1,5 @@
 pub mod Members
 pub mod StatementParts
 pub mod OwnedRuns
+pub mod UnfusedRuns
 pub mod Acts

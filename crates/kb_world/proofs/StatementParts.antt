@@ -1,9 +1,9 @@
 -- Statements are done part by part.
-use Rattle.std.proofs.Common.{◌≡◌, ◌⊎◌, List, [], ◌∷◌, ◌++◌, Some, None, refl, sym, ap, ◌∙◌, subst, inl, inr, append_assoc, append-nil, Result, IfOk, OnErr}
+use Rattle.std.proofs.Common.{◌≡◌, List, [], ◌∷◌, ◌++◌, Some, None, refl, sym, ap, ◌∙◌, subst, inl, append_assoc, append-nil, Option, Result, Ok, Err, IfOk, OnErr}
 use Rattle.std.proofs.lemmas.Result.{IfOk-weaker, on_err_weaker}
 use Rattle.std.specs.declared.vec.Vec.{Vec}
 use Rattle.kb_edge.specs.Goes.{Goes, Stays}
-use Rattle.kb_world.specs.Machine.{State, Act, ActStep, Progress, Steps, Begins, next, joined}
+use Rattle.kb_world.specs.Machine.{State, Act, Declare, Found, SetMoment, Open, Tell, Arm, CutPower, Call, Look, ActStep, Progress, Steps, Lacks, Ends, next, joined}
 use Rattle.kb_script.specs.declared.statements.Statement.{Statement}
 use Rattle.kb_lines.specs.declared.lines.Line.{Line}
 
@@ -42,27 +42,9 @@ module _ {V : Type 0} (stands : V → State → Type 0) (statement : Statement) 
       → Goes stands old new (λ s t. Steps s statement lines t)
   did_all old new each lines did ends same = λ s h. let a = did s h in (a.0, (each, a.1, ends, same), a.2)
 
-  -- then want of memory ended it, between two parts
-  pub did_some : (old new : V) (each : List (List Line)) → Did old each new → Goes stands old new (λ s t. Begins s statement t)
-  did_some old new each did = λ s h. let a = did s h in (a.0, (each, a.1), a.2)
-
-  -- then want of memory ended it, in a part that left things as they were
-  pub did_stays : (old mid new : V) (each : List (List Line)) → Did old each mid → Stays stands mid new → Goes stands old new (λ s t. Begins s statement t)
-  did_stays old mid new each did same = λ s h. let a = did s h in (a.0, (each, a.1), same a.0 a.2)
-
-  -- then want of memory ended it, in a part that was done or not
-  pub did_perhaps : (old mid new : V) (each : List (List Line)) (act : Act)
-      → Did old each mid → next statement each ≡ Some act → Goes stands mid new (λ s t. (t ≡ s) ⊎ ((lines : List Line) × ActStep s act lines t))
-      → Goes stands old new (λ s t. Begins s statement t)
-  did_perhaps old mid new each act did comes goes =
-      λ s h. let a = did s h in let b = goes a.0 a.2 in (
-        b.0,
-        elim b.1 [
-          | inl same ↦ (each, subst (λ u. Progress statement [] s each u) (sym same) a.1)
-          | inr (lines, step) ↦ (each ++ lines ∷ [], Progress-more statement [] s each a.0 act lines b.0 a.1 comes step)
-        ],
-        b.2,
-      )
+  -- then want of memory ended it, in the part that was to come
+  pub did_lack : (old mid new : V) (each : List (List Line)) → Did old each mid → Goes stands mid new (Lacks (next statement each)) → Goes stands old new (λ s t. Ends s statement t)
+  did_lack old mid new each did lack = λ s h. let a = did s h in let b = lack a.0 a.2 in (b.0, (each, a.0, a.1, b.1), b.2)
 
 -- statements of one part
 module _ {V : Type 0} (stands : V → State → Type 0) (old new : V) (given statement : Statement) (is : given ≡ statement) (act : Act)
@@ -76,11 +58,32 @@ module _ {V : Type 0} (stands : V → State → Type 0) (old new : V) (given sta
       → IfOk result (λ lines. Goes stands old new (λ s t. Steps s given lines.items t))
   one_part result goes = IfOk-weaker result _ _ (λ lines h. one_done lines.items h) goes
 
-  pub part_of_one : {T E : Type 0} (result : Result T E) → OnErr result (Goes stands old new (λ s t. (t ≡ s) ⊎ ((lines : List Line) × ActStep s act lines t)))
-      → OnErr result (Goes stands old new (λ s t. Begins s given t))
-  part_of_one result goes =
-      on_err_weaker result (λ h. subst (λ u. Goes stands old new (λ s t. Begins s u t)) (sym is)
-      (did_perhaps stands statement old old new [] act (did_none stands statement old) begins h)) goes
+  pub lack_of_one : {T E : Type 0} (result : Result T E) → OnErr result (Goes stands old new (Lacks (next statement []))) → OnErr result (Goes stands old new (λ s t. Ends s given t))
+  lack_of_one result goes =
+      on_err_weaker result (λ h. subst (λ u. Goes stands old new (λ s t. Ends s u t)) (sym is) (did_lack stands statement old old new [] (did_none stands statement old) h)) goes
+
+-- want of memory may always leave things as they were
+pub lack_none : (act : Option Act) (s : State) → Lacks act s s
+lack_none None s = refl
+lack_none (Some (Declare name size)) s = refl
+lack_none (Some (Found d)) s = refl
+lack_none (Some (SetMoment moment)) s = refl
+lack_none (Some (Open d)) s = inl refl
+lack_none (Some (Tell d)) s = refl
+lack_none (Some (Arm d steps)) s = refl
+lack_none (Some (CutPower d)) s = refl
+lack_none (Some (Call d request)) s = refl
+lack_none (Some (Look d show)) s = refl
+
+-- a statement that left the world as it was
+pub stays_at : {V T E : Type 0} (stands : V → State → Type 0) (old new : V) (statement : Statement) (result : Result T E) → OnErr result (Stays stands old new) → OnErr result (Goes stands old new (λ s t. Ends s statement t))
+stays_at stands old new statement result stays = on_err_weaker result (λ h. λ s at. (s, ([], s, refl, lack_none (next statement []) s), h s at)) stays
+
+pub still_at : {V T E : Type 0} (stands : V → State → Type 0) (v : V) (statement : Statement) (result : Result T E) → OnErr result (Goes stands v v (λ s t. Ends s statement t))
+still_at stands v statement result = always result (λ s at. (s, ([], s, refl, lack_none (next statement []) s), at)) where
+  always : {T E P : Type 0} (r : Result T E) → P → OnErr r P
+  always (Ok x) p = tt
+  always (Err e) p = p
 
 -- statements of one part that leaves the world as it is
 pub one_look : {V Z E : Type 0} (stands : V → State → Type 0) (world : V) (given statement : Statement) → given ≡ statement → (act : Act)

@@ -1,4 +1,5 @@
 pub mod Replies
 pub mod Machine
 pub mod Owned
+pub mod Unfused
 pub mod Stands

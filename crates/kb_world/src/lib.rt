@@ -5,5 +5,5 @@ mod laws;
 mod replies;
 mod world;
 
-pub use laws::runs_are_owned;
+pub use laws::{runs_are_owned, unfused_runs_on};
 pub use world::World;

@@ -1,10 +1,10 @@
 //! A device's answers as lines.
 ghost use Rattle.std.specs.Prelude.{◌≡◌, ◌<◌, [], ◌∷◌, IfOk, OnOk, OnErr, vec_len};
 ghost use Rattle.std.specs.Vec.{vec_capacity};
-ghost use Rattle.kb_world.specs.Replies.{reason_of, called_line, called_lines, shown_line, shown_lines, opened_line};
-ghost use Rattle.kb_device.specs.Refusals.{IsAnswer};
+ghost use Rattle.kb_world.specs.Replies.{reason_of, fault_reason, called_line, called_lines, shown_line, shown_lines, told_line, opened_line, opened_lines};
+ghost use Rattle.kb_device.specs.Refusals.{IsAnswer, IsOpening};
 
-use kb_device::{Called, OpenFault, Refusal, Status};
+use kb_device::{Called, Closed, OpenFault, Refusal, Status};
 use kb_edge::Memory;
 use kb_lines::{Line, Reason};
 use kb_name::DeviceName;
@@ -27,7 +27,10 @@ fn reason_of(why: Refusal) -> Reason
         Refusal::TooBig => Reason::TooBig,
         Refusal::TreeFull => Reason::TreeFull,
         Refusal::Spent => Reason::Spent,
+        Refusal::QueueFull => Reason::QueueFull,
+        Refusal::Full { need, room } => Reason::Full { need, room },
         Refusal::Memory => Reason::Memory,
+        Refusal::Stopped => Reason::Stopped,
     }
 }
 
@@ -64,20 +67,59 @@ fn shown_line(device: DeviceName, answer: Result<Shown, Refusal>) -> Line
     }
 }
 
-/// The line of an opening.
-pub fn opened_line(device: DeviceName, answer: Result<Status, OpenFault>) -> Line
-    ensures { result ≡ opened_line device answer }
+/// The line of what a device tells of its journal.
+pub fn told_line(device: DeviceName, answer: Result<Status, Closed>) -> Line
+    ensures { result ≡ told_line device answer }
 {
     match answer {
-        Ok(Status { at, queue, last }) => Line::Opened {
+        Ok(
+            Status {
+                at,
+                queue,
+                last,
+                branched,
+                flight,
+            },
+        ) => Line::Status {
             device,
             at,
             queue,
             last,
+            branched,
+            flight,
         },
-        Err(OpenFault::AlreadyOpen) => Line::Refused {
+        Err(Closed) => Line::Refused {
             device,
-            reason: Reason::AlreadyOpen,
+            reason: Reason::Closed,
+        },
+    }
+}
+
+fn fault_reason(why: OpenFault) -> Reason
+    ensures { result ≡ fault_reason why }
+{
+    match why {
+        OpenFault::AlreadyOpen => Reason::AlreadyOpen,
+        OpenFault::Stopped => Reason::Stopped,
+        OpenFault::BadDisk => Reason::BadDisk,
+        OpenFault::Foreign { known: _ } => Reason::Foreign,
+        OpenFault::Memory => Reason::Memory,
+    }
+}
+
+fn opened_line(device: DeviceName, answer: Result<Status, OpenFault>) -> Line
+    ensures { result ≡ opened_line device answer }
+{
+    match answer {
+        Ok(status) => Line::Opened {
+            device,
+            at: status.at,
+            queue: status.queue,
+            last: status.last,
+        },
+        Err(why) => Line::Refused {
+            device,
+            reason: fault_reason(why),
         },
     }
 }
@@ -136,5 +178,23 @@ pub fn shown_lines(
     match answer {
         Err(Refusal::Memory) => Err(Memory),
         answer => Ok(one_line(room, shown_line(device, answer))),
+    }
+}
+
+/// The reply to an opening, unless memory ran out.
+pub fn opened_lines(
+    room: Vec<Line>,
+    device: DeviceName,
+    answer: Result<Status, OpenFault>,
+) -> Result<Vec<Line>, Memory>
+    requires empty { room.items ≡ [] }
+    requires room { vec_len room < vec_capacity room }
+    ensures lines { IfOk result (λ lines. lines.items ≡ opened_lines device answer) }
+    ensures answer { OnOk result (IsOpening answer) }
+    ensures memory { OnErr result (answer ≡ Err OpenFault.Memory) }
+{
+    match answer {
+        Err(OpenFault::Memory) => Err(Memory),
+        answer => Ok(one_line(room, opened_line(device, answer))),
     }
 }

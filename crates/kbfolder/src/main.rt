@@ -2,6 +2,7 @@
 #![tactic(auto)]
 
 use kb_edge::{StdSink, StdSource};
+use kb_memdisk::Rack;
 use kb_top::{Status, run_words};
 use kb_world::World;
 use std::alloc::Global;
@@ -32,7 +33,7 @@ fn main(rt: HostRuntime) -> ExitCode {
     };
     let mut source = StdSource::new(rt.reader());
     let mut sink = StdSink::new(io::writer(&rt));
-    let mut world = World::new(alloc);
+    let mut world = World::new(alloc, Rack);
     let status = run_words(alloc, &words, &mut source, &mut sink, &mut world);
     ExitCode::from(status.code())
 }

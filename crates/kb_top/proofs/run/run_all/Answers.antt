@@ -5,7 +5,7 @@ use Rattle.std.specs.Io.KnownBytes.{Appends}
 use Rattle.kb_script.specs.Fit.{IsFit}
 use Rattle.kb_lines.specs.LineTexts.{text_of_all}
 use Rattle.kb_world.specs.Stands.{WorldStands, device_count, is_founded}
-use Rattle.kb_top.proofs.Runs.{none_ran, one_more, ended_still, ended_after, cut, fit_at, declared_after_all, none_declared, not_founded}
+use Rattle.kb_top.proofs.Runs.{none_ran, one_more, ended, ended_after, cut, fit_at, declared_after_all, none_declared, not_founded}
 use Rattle.kb_top.proofs.run.run_all.Goals as goal
 
 pub loop-statement-init : goal.loop-statement-init
@@ -36,7 +36,7 @@ returns-in-Err-clause-runs g c =
     let held = g.K.Sink.held c.loop-statement.sink in
     let first = g.K.Sink.faults c.args.sink.now in
     let second = g.K.Sink.faults c.loop-statement.sink in
-    ended_still WorldStands device_count is_founded c.loop-statement.world c.step.new.self old held held first second second all i it next c.loop-statement.invariant c.in-Err.ensures.memory
+    ended WorldStands device_count is_founded c.loop-statement.world c.step.new.self old held held first second second all i it next c.loop-statement.invariant c.in-Err.ensures.memory
 
 pub returns-in-Err-render-clause-runs : goal.returns-in-Err-render-clause-runs
 returns-in-Err-render-clause-runs g c =

@@ -1,34 +1,24 @@
-use Rattle.std.proofs.Common.{◌≤◌, ◌+◌, vec_len, Ok, refl, sym, ap, ◌∙◌, subst, arith}
-use Rattle.kb_ops.specs.Plan.{change_for}
-use Rattle.kb_device.proofs.Ids.{ids_next}
-use Rattle.kb_device.specs.Fresh.{IdsEndAt}
-use Rattle.kb_device.proofs.Calls.{refuses, stays_so, queues, made_numbers}
+use Rattle.std.proofs.Common.{◌≡◌, None, is_some, refl, sym, ap, ◌∙◌}
+use Rattle.kb_device.proofs.Calls.{unless}
+use Rattle.kb_device.proofs.Devices.{none_of, none_by, no_rest, closed_at, same_device, goes_on, stops}
 use Rattle.kb_device.proofs.device.Device.call.Goals as goal
 
-pub returns-then-not-self-clause-step : goal.returns-then-not-self-clause-step
-returns-then-not-self-clause-step c = λ chain s h. (s, (refl, sym h.session ∙ c.if-not-self.true), h)
+pub returns-in_default-clause-step : goal.returns-in_default-clause-step
+returns-in_default-clause-step g c = λ chain p h. (p, (refl, closed_at chain c.args.self.now p (none_by c.args.self.now.session c.in_default.not-Some) h), same_device chain c.args.self.now _ p refl refl refl h)
 
-pub invariant_of-self-in-Ok : goal.invariant_of-self-in-Ok
-invariant_of-self-in-Ok c =
+pub call-answer-requires-clause-running : goal.call-answer-requires-clause-running
+call-answer-requires-clause-running g c = c.args.self.now.runs c.in-Some.session c.in-Some.is
+
+pub returns-then-not-has_stopped-clause-step : goal.returns-then-not-has_stopped-clause-step
+returns-then-not-has_stopped-clause-step g c =
     let device = c.args.self.now in
-    let op = c.in-Ok-Made.op in
-    let made = c.in-Ok-Made.ensures.planned ∙ ap (λ p. Ok p) c.in-Ok-Made.field-0-is in
-    let numbers = made_numbers (change_for device.table.tree c.args.request.now) device.number (device.last + 1) c.args.moment op made in
-    let fits : vec_len device.queue ≤ device.last = device.queued in
-    record {
-      numbered = device.numbered;
-      queued = omega (arith, c.in-Ok.ensures.len);
-      fresh = subst (IdsEndAt device.number (device.last + 1)) (sym c.in-Ok.ensures.table) (ids_next device.number device.last op device.table.tree device.fresh numbers.0 numbers.1);
-    }
+    let none : device.resting ≡ None = none_of device.resting (no_rest (is_some device.resting) (is_some device.session) device.one (ap is_some c.in-Some.is)) in
+    unless c.call-answer.result _ (λ is chain.
+    goes_on device _ c.in-Some.session c.call-answer.new.self c.args.request.now c.args.moment c.call-answer.result none c.in-Some.is refl c.call-answer.ensures.does chain none refl (sym c.has_stopped.ensures ∙ c.if-not-has_stopped.true) is)
 
-pub returns-in-Err-clause-step : goal.returns-in-Err-clause-step
-returns-in-Err-clause-step c =
-    refuses c.args.self.now _ (record { session = refl; known = refl; last = refl; queue = refl; table = refl }) c.if-not-self.false c.args.request.now c.args.moment (c.args.self.now.last + 1) c.in-Err.fault c.from.result c.from.ensures c.in-Err.ensures.planned
-
-pub returns-in-Ok-Same-clause-step : goal.returns-in-Ok-Same-clause-step
-returns-in-Ok-Same-clause-step c =
-    stays_so c.args.self.now _ (record { session = refl; known = refl; last = refl; queue = refl; table = refl }) c.if-not-self.false c.args.request.now c.args.moment (c.args.self.now.last + 1) (c.in-Ok-Same.ensures.planned ∙ ap (λ p. Ok p) c.in-Ok-Same.field-0-is)
-
-pub returns-in-Ok-clause-step : goal.returns-in-Ok-clause-step
-returns-in-Ok-clause-step c =
-    queues c.args.self.now _ c.args.request.now c.args.moment c.in-Ok-Made.op c.if-not-self.false (c.in-Ok-Made.ensures.planned ∙ ap (λ p. Ok p) c.in-Ok-Made.field-0-is) refl refl refl c.in-Ok.ensures.queue c.in-Ok.ensures.table
+pub returns-clause-step : goal.returns-clause-step
+returns-clause-step g c =
+    let device = c.args.self.now in
+    let none : device.resting ≡ None = none_of device.resting (no_rest (is_some device.resting) (is_some device.session) device.one (ap is_some c.in-Some.is)) in
+    unless c.call-answer.result _ (λ is chain.
+    stops device _ c.in-Some.session c.call-answer.new.self c.args.request.now c.args.moment c.call-answer.result none c.in-Some.is refl c.call-answer.ensures.does chain c.rest.ensures.disk c.rest.ensures.ended (sym c.has_stopped.ensures ∙ c.if-not-has_stopped.false))

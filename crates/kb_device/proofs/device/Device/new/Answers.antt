@@ -1,11 +1,8 @@
-use Rattle.std.proofs.Common.{subst, sym, arith}
-use Rattle.kb_device.specs.Fresh.{IdsEndAt}
-use Rattle.kb_device.proofs.Ids.{start_ids}
+use Rattle.std.proofs.Common.{refl}
+use Rattle.kb_device.specs.Parts.{new_part}
+use Rattle.kb_device.proofs.Devices.{at_rest, new_stands}
 use Rattle.kb_device.proofs.device.Device.new.Goals as goal
 
-pub invariant_of-result : goal.invariant_of-result
-invariant_of-result c = record {
-  numbered = c.requires;
-  queued = omega (arith, c.new-2.ensures.len);
-  fresh = subst (IdsEndAt c.args.number 0) (sym c.in_ok-new.ensures) (start_ids c.args.number c.requires);
-}
+pub returns-clause-stands : goal.returns-clause-stands
+returns-clause-stands g c = λ size chain zeros clean left.
+    at_rest chain _ (new_part size) c.args.disk refl refl refl (new_stands g.D.Disk c.args.number c.args.disk size chain c.requires.sized.0 zeros clean left)

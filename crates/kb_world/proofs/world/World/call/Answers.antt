@@ -3,12 +3,11 @@ use Rattle.std.specs.Prelude.{slice_get}
 use Rattle.std.proofs.lemmas.Option.{slice_get_read}
 use Rattle.kb_world.specs.Replies.{called_lines}
 use Rattle.kb_device.proofs.Calls.{answered}
-use Rattle.kb_world.proofs.Members.{on_err}
-use Rattle.kb_world.proofs.Acts.{calls_device, stays_device}
+use Rattle.kb_world.proofs.Acts.{on_err, calls_device, stays_device}
 use Rattle.kb_world.proofs.world.World.call.Goals as goal
 
 pub returns-clause-step : goal.returns-clause-step
-returns-clause-step c =
+returns-clause-step g c =
     let w = c.args.self.now in
     let device = c.index_mut-device.result.now in
     let within : c.args.number - 1 < length w.devices.items = (let low = c.requires.0 in let high = c.requires.1 in omega arith) in
@@ -19,7 +18,7 @@ returns-clause-step c =
     calls_device w _ c.args.number device c.call-answer.new.self c.requires.0 found refl refl refl c.call-answer.ensures.number c.call-answer.ensures.name c.args.request.now c.call-answer.result c.in_ok-lines.lines.items lines step
 
 pub returns-in_err-lines-clause-memory : goal.returns-in_err-lines-clause-memory
-returns-in_err-lines-clause-memory c =
+returns-in_err-lines-clause-memory g c =
     let w = c.args.self.now in
     let device = c.index_mut-device.result.now in
     let within : c.args.number - 1 < length w.devices.items = (let low = c.requires.0 in let high = c.requires.1 in omega arith) in

@@ -1,9 +1,12 @@
-use Rattle.std.proofs.Common.{◌≡◌, ◌+◌, length, refl, ap, ◌∙◌}
+use Rattle.std.proofs.Common.{◌≡◌, ◌+◌, ◌++◌, ◌∷◌, [], length, refl, ap, ◌∙◌}
 use Rattle.kb_world.proofs.Acts.{declares}
 use Rattle.kb_world.proofs.world.World.declare.Goals as goal
 
 pub returns-clause-step : goal.returns-clause-step
-returns-clause-step c =
-    let number : c.in_ok-device.device.number ≡ length c.args.self.now.devices.items + 1 = c.in_ok-device.ensures.number ∙ ap (λ n. n + 1) (c.len.ensures ∙ c.args.self.now.devices.ok.0) in
-    let named = c.in_ok-device.ensures.name ∙ c.in_ok-name.ensures.cases in
-    declares c.args.self.now _ c.args.name.now c.in_ok-device.device c.new-2.result.items c.new-2.ensures.items refl refl c.in_ok-push.ensures.items number named c.in_ok-device.ensures.stands
+returns-clause-step g c =
+    let w = c.args.self.now in
+    let kept : c.reserve.new.self.items ≡ w.devices.items = c.in_ok-reserve.ensures.items in
+    let number : c.new.result.number ≡ length w.devices.items + 1 = c.new.ensures.number ∙ ap (λ n. n + 1) (c.len.ensures ∙ c.reserve.new.self.ok.0 ∙ ap length kept) in
+    let named = c.new.ensures.name ∙ c.in_ok-name.ensures.cases in
+    declares w _ c.args.name.now c.args.size c.new.result c.new-in-Ok.result.items c.new-in-Ok.ensures.items refl refl (c.in-Ok.ensures.items ∙ ap (λ l. l ++ c.new.result ∷ []) kept) number named
+    (λ chain. c.new.ensures.stands c.args.size chain c.in_ok-disk.ensures.content c.in_ok-disk.ensures.clean c.in_ok-disk.ensures.left)

@@ -3,4 +3,4 @@ use Rattle.kb_world.proofs.Acts.{founds}
 use Rattle.kb_world.proofs.world.World.found.Goals as goal
 
 pub returns-clause-step : goal.returns-clause-step
-returns-clause-step c = founds c.args.self.now _ c.args.device c.one_line.result.items c.one_line.ensures refl refl refl
+returns-clause-step g c = founds c.args.self.now _ c.args.device c.one_line.result.items c.one_line.ensures refl c.requires refl refl

@@ -7,7 +7,7 @@ use Rattle.kb_world.proofs.Acts.{looks_at}
 use Rattle.kb_world.proofs.world.World.look.Goals as goal
 
 pub returns : goal.returns
-returns c =
+returns g c =
     let w = c.args.self.now in
     let device = c.index-device.result.now in
     let within : c.args.number - 1 < length w.devices.items = (let low = c.requires.0 in let high = c.requires.1 in omega arith) in
