@@ -11,12 +11,32 @@ use kb_ops::{Change, Op, Request, Show, Shown, Word};
 use std::alloc::Global;
 use std::test::Fail;
 
-// A closed device over a new disk of 4,096 bytes.
-fn new_device(alloc: Global) -> Result<Device<MemDisk>, Fail> {
-    match MemDisk::new(alloc, 4096) {
-        Ok(disk) => named(alloc, disk),
+// A new disk of so many bytes.
+fn blank(alloc: Global, size: u32) -> Result<MemDisk, Fail>
+    requires { IsSized size }
+    ensures { IfOk result (λ disk. IsSized (length disk.now)) }
+{
+    match MemDisk::new(alloc, size) {
+        Ok(disk) => Ok(disk),
         Err(Memory) => Err(Fail::from("no memory for a disk")),
     }
+}
+
+// A disk of so many bytes that are no journal.
+fn scribbled(alloc: Global, size: usize) -> Result<MemDisk, Fail>
+    requires { IsSized size }
+    ensures { IfOk result (λ disk. IsSized (length disk.now)) }
+{
+    let image = vec![in alloc; 255u8; size]?;
+    match MemDisk::with_image(alloc, image) {
+        Ok(disk) => Ok(disk),
+        Err(Memory) => Err(Fail::from("no memory for a disk")),
+    }
+}
+
+// A closed device over a new disk of 4,096 bytes.
+fn new_device(alloc: Global) -> Result<Device<MemDisk>, Fail> {
+    named(alloc, blank(alloc, 4096)?)
 }
 
 // Device 1 over a disk.
@@ -105,27 +125,17 @@ fn a_device_shows_its_queue(rt: HostRuntime) -> Result<(), Fail> {
 #[test]
 fn a_disk_that_is_no_journal_is_refused(rt: HostRuntime) -> Result<(), Fail> {
     let alloc = rt.alloc();
-    let image = vec![in alloc; 255u8; 4096]?;
-    match MemDisk::with_image(alloc, image) {
-        Ok(disk) => {
-            let mut device = named(alloc, disk)?;
-            assert_eq!(rt; device.open(alloc), Err(OpenFault::BadDisk));
-            assert_eq!(rt; device.status(), Err(Closed));
-            Ok(())
-        }
-        Err(Memory) => Err(Fail::from("no memory for a disk")),
-    }
+    let mut device = named(alloc, scribbled(alloc, 4096)?)?;
+    assert_eq!(rt; device.open(alloc), Err(OpenFault::BadDisk));
+    assert_eq!(rt; device.status(), Err(Closed));
+    Ok(())
 }
 
 // A disk of 4,096 bytes, in whose journal device 2 has queued an operation.
 fn disk_of_another(alloc: Global) -> Result<MemDisk, Fail>
     ensures { IfOk result (λ disk. IsSized (length disk.now)) }
 {
-    let disk = match MemDisk::new(alloc, 4096) {
-        Ok(disk) => disk,
-        Err(Memory) => return Err(Fail::from("no memory for a disk")),
-    };
-    let mut journal = match Journal::open(alloc, disk) {
+    let mut journal = match Journal::open(alloc, blank(alloc, 4096)?) {
         Ok(journal) => journal,
         Err(_) => return Err(Fail::from("no journal")),
     };
