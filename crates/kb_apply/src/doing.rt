@@ -208,7 +208,7 @@ fn synced(
 }
 
 /// The bytes of a file after a write, in one buffer.
-fn patched(
+pub fn patched(
     alloc: Global,
     old: &[u8],
     offset: u32,

@@ -7,11 +7,11 @@ mod laws;
 mod plans;
 mod shows;
 
-pub use doing::{Prepared, apply, prepare};
+pub use doing::{Prepared, apply, patched, prepare};
 pub use fitting::fits;
 pub use laws::{listed_law, placed_law};
 pub use plans::plan;
-pub use shows::{ShowFault, show};
+pub use shows::{ShowFault, rows_of, show};
 
 #[cfg(test)]
 mod tests;

@@ -182,7 +182,7 @@ fn copied(table: &Table, id: NodeId) -> Result<Row, Memory>
 
 /// All rows but the root's, each directory before its children. Directories wait on a stack, so that a deep tree takes
 /// no deep recursion.
-fn rows_of(alloc: Global, table: &Table) -> Result<Vec<Placed>, Memory>
+pub fn rows_of(alloc: Global, table: &Table) -> Result<Vec<Placed>, Memory>
     ensures { IfOk result (λ rows. rows.items ≡ rows_of table.now.tree) }
 {
     table.is_well_formed();

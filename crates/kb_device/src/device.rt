@@ -26,13 +26,13 @@ pub struct Device<D: Disk> {
 }
 
 impl<D: Disk> Device<D> {
-    ghost use Rattle.std.specs.Prelude.{◌≡◌, ◌≤◌, ◌∷◌, ℕ, Err, IfOk, replicate};
+    ghost use Rattle.std.specs.Prelude.{◌≡◌, ◌≢◌, ◌≤◌, ◌∷◌, ℕ, None, Some, Err, IfOk, IfErr, replicate};
     ghost use Rattle.std.specs.Option.{option_map};
     ghost use Rattle.kb_edge.specs.Goes.{Goes};
     ghost use Rattle.kb_log.specs.Steps.{IsClean};
     ghost use Rattle.kb_device.specs.Chains.{Chain};
     ghost use Rattle.kb_device.specs.Disks.{HasFailed, disk_of};
-    ghost use Rattle.kb_device.specs.Openings.{OpenCause};
+    ghost use Rattle.kb_device.specs.Openings.{OnDisk, OpenCause};
     ghost use Rattle.kb_device.specs.Parts.{Part, new_part, CallStep, LookStep, StatusStep, OpenStep, Lowered};
     ghost use Rattle.kb_device.specs.Refusals.{UnlessMemory, IsOpening};
     ghost use Rattle.kb_device.specs.Stands.{DeviceStands, DeviceGoes, DeviceStays};
@@ -44,6 +44,10 @@ impl<D: Disk> Device<D> {
         requires sized { IsSized (length (D.content disk)) }
         ensures stands { (size : ℕ) (chain : Chain) → D.content disk ≡ replicate size 0 → IsClean (D.dirty disk) → D.left disk ≡ None
             → DeviceStands chain result (new_part size) }
+
+        // Whatever the disk, the device has it as it is, and no session is open.
+        ensures disk { disk_of result ≡ Some disk }
+        ensures closed { result.session ≡ None }
         ensures number { result.number ≡ number }
         ensures name { result.name ≡ name }
     {
@@ -73,6 +77,11 @@ impl<D: Disk> Device<D> {
         ensures step { IsOpening result → (chain : Chain) → length chain ≡ 1 → Goes (DeviceStands chain) self.old self.new (λ p q. OpenStep chain p result q) }
         ensures memory { result ≡ Err OpenFault.Memory → DeviceGoes self.old self.new Lowered }
         ensures cause { OpenCause D.Disk self.old.number self.old.session (disk_of self.old) (disk_of self.new) result }
+
+        // After each refusal but AlreadyOpen no session is open, and but for a stop the disk has the bytes that it had.
+        ensures closed { IfErr result (λ fault. fault ≢ OpenFault.AlreadyOpen → self.new.session ≡ None) }
+        ensures content { IfErr result (λ fault. fault ≢ OpenFault.AlreadyOpen → fault ≢ OpenFault.Stopped
+            → OnDisk D.Disk (disk_of self.old) (λ was. OnDisk D.Disk (disk_of self.new) (λ now. D.content now ≡ D.content was))) }
         ensures number { self.new.number ≡ self.old.number }
         ensures name { self.new.name ≡ self.old.name }
     {

@@ -1,5 +1,5 @@
 //! A session: an open journal, and the tree that its queue makes.
-ghost use Rattle.std.specs.Prelude.{◌≡◌, ◌⊎◌, ◌↔◌, IsTrue, ◌≤◌, ◌<◌, ◌+◌, ◌^◌, true, false, length, IfOk, IfErr, OnOk, OnErr, IsErrOf};
+ghost use Rattle.std.specs.Prelude.{◌≡◌, ◌≢◌, ◌⊎◌, ◌↔◌, IsTrue, ◌≤◌, ◌<◌, ◌+◌, ◌^◌, true, false, length, IfOk, IfErr, OnOk, OnErr, IsErrOf};
 ghost use Rattle.kb_edge.specs.Causes.{Rose};
 ghost use Rattle.kb_edge.specs.Disk.{FallsBy};
 ghost use Rattle.kb_log.specs.Images.{EachImage};
@@ -156,6 +156,7 @@ impl<D: Disk> Session<D> {
         ensures begins { IfOk result (λ session. Begins D.Disk number disk session) }
         ensures fails { IfErr result (λ e. Fails D.Disk number disk e.0 e.1) }
         ensures size { IfErr result (λ e. length (D.content e.0) ≡ length (D.content disk)) }
+        ensures content { IfErr result (λ e. e.1 ≢ OpenFault.Stopped → D.content e.0 ≡ D.content disk) }
     {
         let journal = match Journal::open(alloc, disk) {
             Ok(journal) => journal,

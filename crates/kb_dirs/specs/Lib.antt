@@ -1,2 +1,3 @@
 pub mod Dirs
 pub mod Parses
+pub mod Laws

@@ -1,5 +1,5 @@
 //! Adapters of std's ends: the edge where the proofs trust the system.
-ghost use Rattle.std.specs.Prelude.{None};
+ghost use Rattle.std.specs.Prelude.{◌≡◌, None};
 
 use crate::faults::{Failed, fail};
 use crate::streams::{Sink, Source};
@@ -13,7 +13,11 @@ pub struct StdSource<R: Read + Drop> {
 }
 
 impl<R: Read + Drop> StdSource<R> {
-    pub fn new(inner: R) -> StdSource<R> {
+    /// A source that has never failed.
+    pub fn new(inner: R) -> StdSource<R>
+        ensures inner { result.inner ≡ inner }
+        ensures faults { result.faults ≡ 0 }
+    {
         StdSource { inner, faults: 0 }
     }
 }
@@ -40,7 +44,11 @@ pub struct StdSink<W: Write + Drop> {
 }
 
 impl<W: Write + Drop> StdSink<W> {
-    pub fn new(inner: W) -> StdSink<W> {
+    /// A sink that has never failed.
+    pub fn new(inner: W) -> StdSink<W>
+        ensures inner { result.inner ≡ inner }
+        ensures faults { result.faults ≡ 0 }
+    {
         StdSink { inner, faults: 0 }
     }
 }

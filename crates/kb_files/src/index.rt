@@ -9,7 +9,7 @@ use std::alloc::Global;
 
 /// Why a text is no block of pointers.
 #[derive(Clone, Copy, Debug, PartialEq, Eq)]
-pub(crate) enum IndexFault {
+pub enum IndexFault {
     BadIndex,
     Memory,
 }
@@ -35,7 +35,7 @@ fn push_pointers(out: &mut Vec<u8>, ptrs: &[Ptr]) -> Result<(), Memory>
 }
 
 /// The text of a block of pointers.
-pub(crate) fn index_text(alloc: Global, level: u8, ptrs: &[Ptr]) -> Result<Vec<u8>, Memory>
+pub fn index_text(alloc: Global, level: u8, ptrs: &[Ptr]) -> Result<Vec<u8>, Memory>
     requires { length ptrs.now ≤ 64 }
     ensures { IfOk result (λ text. text.items ≡ index_text level ptrs.now) }
 {
@@ -73,7 +73,7 @@ fn ptrs_of(alloc: Global, count: usize, bytes: &[u8]) -> Result<Vec<Ptr>, Memory
 }
 
 /// The pointers of a block of the level.
-pub(crate) fn read_index(alloc: Global, level: u8, text: &[u8]) -> Result<Vec<Ptr>, IndexFault>
+pub fn read_index(alloc: Global, level: u8, text: &[u8]) -> Result<Vec<Ptr>, IndexFault>
     ensures ok { IfOk result (λ ptrs. AreFit ptrs.items × (text.now ≡ index_text level ptrs.items)) }
     ensures bad { IsErrOf result IndexFault.BadIndex → (ptrs : List Ptr) → AreFit ptrs → text.now ≡ index_text level ptrs → ⊥ }
 {

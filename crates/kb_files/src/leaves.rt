@@ -7,12 +7,12 @@ use std::alloc::Global;
 
 /// Why a text is no leaf of so many bytes.
 #[derive(Clone, Copy, Debug, PartialEq, Eq)]
-pub(crate) enum LeafFault {
+pub enum LeafFault {
     BadLeaf,
     Memory,
 }
 
-pub(crate) fn leaf_text(alloc: Global, bytes: &[u8]) -> Result<Vec<u8>, Memory>
+pub fn leaf_text(alloc: Global, bytes: &[u8]) -> Result<Vec<u8>, Memory>
     ensures { IfOk result (λ text. text.items ≡ leaf_text bytes.now) }
 {
     let mut text = Vec::with_capacity(alloc, 1 + bytes.len())?;
@@ -21,7 +21,7 @@ pub(crate) fn leaf_text(alloc: Global, bytes: &[u8]) -> Result<Vec<u8>, Memory>
     Ok(text)
 }
 
-pub(crate) fn read_leaf(alloc: Global, size: usize, text: &[u8]) -> Result<Vec<u8>, LeafFault>
+pub fn read_leaf(alloc: Global, size: usize, text: &[u8]) -> Result<Vec<u8>, LeafFault>
     ensures ok { IfOk result (λ bytes. (length bytes.items ≡ size) × (text.now ≡ leaf_text bytes.items)) }
     ensures bad { IsErrOf result LeafFault.BadLeaf → (bytes : List ℕ) → length bytes ≡ size → text.now ≢ leaf_text bytes }
 {

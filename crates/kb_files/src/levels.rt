@@ -3,7 +3,7 @@ ghost use Rattle.std.specs.Prelude.{◌≡◌, ◌≤◌};
 ghost use Rattle.kb_files.specs.Files.{span, level_of};
 
 /// How many bytes a block of the level spans at most.
-pub(crate) fn span(level: u8) -> usize
+pub fn span(level: u8) -> usize
     requires { level ≤ 2 }
     ensures { result ≡ span level }
 {
@@ -15,7 +15,7 @@ pub(crate) fn span(level: u8) -> usize
 }
 
 /// The level of the block of so many bytes.
-pub(crate) fn level_of(size: usize) -> u8
+pub fn level_of(size: usize) -> u8
     ensures { result ≡ level_of size }
 {
     if size <= 4096 {

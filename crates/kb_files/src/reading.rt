@@ -2,7 +2,8 @@
 ghost use Rattle.std.specs.Prelude.{◌≤◌};
 ghost use Rattle.std.specs.FinMap as map;
 ghost use Rattle.kb_keys.specs.Rings.{key_at};
-ghost use Rattle.kb_files.specs.Opens.{Opens, Reads};
+ghost use Rattle.kb_files.specs.Opens.{Opens, Reads, RefusalNames};
+ghost use Rattle.kb_files.specs.Stops.{Stops, StopsFile};
 ghost use Rattle.kb_files.specs.Files.{HoldsSized, IsLeafOf, IsIndexOf, IsFileOf};
 
 use crate::index::{IndexFault, read_index};
@@ -15,14 +16,15 @@ use kb_seal::Sealer;
 use std::alloc::Global;
 
 /// The bytes of a leaf, so many.
-fn open_leaf<S: Sealer, H: BlockHash>(
+pub fn open_leaf<S: Sealer, H: BlockHash>(
     alloc: Global,
     ptr: Ptr,
     size: usize,
     keys: &KeyRing,
     store: &Store<H>,
 ) -> Result<Vec<u8>, LoadFault>
-    ensures { Reads (map.get store.now) (λ bytes. bytes.items) (IsLeafOf (Opens S.sealed H.hashed (map.get store.now) (key_at keys.now)) size ptr) result }
+    ensures reads { Reads (map.get store.now) (λ bytes. bytes.items) (IsLeafOf (Opens S.sealed H.hashed (map.get store.now) (key_at keys.now)) size ptr) result }
+    ensures names { RefusalNames ptr.id result }
 {
     let id = ptr.id;
     let text = match open_block::<S, H>(alloc, ptr, keys, store) {
@@ -37,14 +39,15 @@ fn open_leaf<S: Sealer, H: BlockHash>(
 }
 
 /// The pointers of a block of the level.
-fn open_index<S: Sealer, H: BlockHash>(
+pub fn open_index<S: Sealer, H: BlockHash>(
     alloc: Global,
     level: u8,
     ptr: Ptr,
     keys: &KeyRing,
     store: &Store<H>,
 ) -> Result<Vec<Ptr>, LoadFault>
-    ensures { Reads (map.get store.now) (λ ptrs. ptrs.items) (IsIndexOf (Opens S.sealed H.hashed (map.get store.now) (key_at keys.now)) level ptr) result }
+    ensures names { RefusalNames ptr.id result }
+    ensures reads { Reads (map.get store.now) (λ ptrs. ptrs.items) (IsIndexOf (Opens S.sealed H.hashed (map.get store.now) (key_at keys.now)) level ptr) result }
 {
     let id = ptr.id;
     let text = match open_block::<S, H>(alloc, ptr, keys, store) {
@@ -68,7 +71,8 @@ fn read_at<S: Sealer, H: BlockHash>(
     store: &Store<H>,
 ) -> Result<Vec<u8>, LoadFault>
     requires { level ≤ 2 }
-    ensures { Reads (map.get store.now) (λ bytes. bytes.items) (HoldsSized (Opens S.sealed H.hashed (map.get store.now) (key_at keys.now)) level size ptr) result }
+    ensures reads { Reads (map.get store.now) (λ bytes. bytes.items) (HoldsSized (Opens S.sealed H.hashed (map.get store.now) (key_at keys.now)) level size ptr) result }
+    ensures first { Stops (Opens S.sealed H.hashed (map.get store.now) (key_at keys.now)) (map.get store.now) level size ptr result }
 {
     let id = ptr.id;
     if level == 0 {
@@ -109,7 +113,10 @@ pub fn join<S: Sealer, H: BlockHash>(
     keys: &KeyRing,
     store: &Store<H>,
 ) -> Result<Vec<u8>, LoadFault>
-    ensures { Reads (map.get store.now) (λ bytes. bytes.items) (IsFileOf (Opens S.sealed H.hashed (map.get store.now) (key_at keys.now)) size ptr) result }
+    ensures reads { Reads (map.get store.now) (λ bytes. bytes.items) (IsFileOf (Opens S.sealed H.hashed (map.get store.now) (key_at keys.now)) size ptr) result }
+
+    // A refusal names the first block in the order of reading that isn't right.
+    ensures first { StopsFile (Opens S.sealed H.hashed (map.get store.now) (key_at keys.now)) (map.get store.now) size ptr result }
 {
     let id = ptr.id;
     if size > 16_777_216 {

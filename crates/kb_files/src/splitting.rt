@@ -1,5 +1,6 @@
 //! Making a file's blocks.
-ghost use Rattle.std.specs.Prelude.{◌≡◌, ◌≤◌, ◌<◌, ℕ, List, IfOk, OnOk, Err, length};
+ghost use Rattle.std.specs.Prelude.{◌≡◌, ◌≤◌, ◌<◌, ◌+◌, max, ℕ, List, IfOk, OnOk, Err, length};
+ghost use Rattle.kb_files.specs.Counts.{touched, blocks_of};
 ghost use Rattle.kb_files.specs.Files.{HoldsAt, HoldsFile, IsFit, span};
 ghost use Rattle.kb_files.specs.Splits.{OnceStored, Keeps};
 
@@ -22,6 +23,7 @@ pub fn add_block<S: Sealer, H: BlockHash>(
     ensures opens { IfOk result (λ ptr. OnceStored H.hashed S.sealed generation key.now made.new.items (λ vault. vault ptr text.now)) }
     ensures fit { IfOk result IsFit }
     ensures kept { OnOk result (Keeps H.hashed made.old.items made.new.items) }
+    ensures one { OnOk result (length made.new.items ≡ length made.old.items + 1) }
 {
     let sealed = S::seal(alloc, key, text)?;
     let id = H::hash(&sealed);
@@ -44,6 +46,7 @@ pub(crate) fn split_at<S: Sealer, H: BlockHash>(
     ensures holds { IfOk result (λ ptr. OnceStored H.hashed S.sealed generation key.now made.new.items (λ vault. HoldsAt vault level ptr bytes.now)) }
     ensures fit { IfOk result IsFit }
     ensures kept { OnOk result (Keeps H.hashed made.old.items made.new.items) }
+    ensures count { OnOk result (length made.new.items ≡ length made.old.items + max 1 (touched level 0 (length bytes.now))) }
 {
     if level == 0 {
         let text = leaf_text(alloc, bytes)?;
@@ -79,6 +82,7 @@ pub fn split<S: Sealer, H: BlockHash>(
 ) -> Result<(Ptr, Vec<Vec<u8>>), FileFault>
     ensures holds { IfOk result (λ made. OnceStored H.hashed S.sealed generation key.now made.1.items (λ vault. HoldsFile vault made.0 bytes.now)) }
     ensures fit { IfOk result (λ made. IsFit made.0) }
+    ensures count { IfOk result (λ made. length made.1.items ≡ blocks_of (length bytes.now)) }
     ensures big { result ≡ Err FileFault.TooBig → 16777216 < length bytes.now }
     ensures refused { 16777216 < length bytes.now → result ≡ Err FileFault.TooBig }
 {

@@ -4,3 +4,4 @@ pub mod Laws
 pub mod Policies
 pub mod Rings
 pub mod Secrets
+pub mod Members

@@ -63,6 +63,16 @@ fn key_from<S: Sealer>(
     }
 }
 
+impl Entry {
+    /// The key that the entry gives, with the device's secret and the server's half.
+    pub fn key<S: Sealer>(&self, alloc: Global, secret: &Key, half: &Key) -> Result<Key, KeyFault>
+        ensures gives { Gives S.sealed secret.now half.now (Some self.now.sealed) result }
+        ensures one { (key : List ℕ) → length key ≡ 32 → self.now.sealed ≡ S.sealed secret.now (xored key half.now) → GivesOnly key result }
+    {
+        key_from::<S>(alloc, &self.sealed, secret, half)
+    }
+}
+
 impl Bundle {
     /// A bundle of no entry.
     pub fn new(alloc: Global) -> Bundle

@@ -1,5 +1,5 @@
 //! The folder keys that a reader has.
-ghost use Rattle.std.specs.Prelude.{◌≡◌, [], OnOk, OnErr};
+ghost use Rattle.std.specs.Prelude.{◌≡◌, [], OnOk, OnErr, IfOk};
 ghost use Rattle.std.specs.Option.{option_copied};
 ghost use Rattle.kb_keys.specs.Rings.{key_at, AddsKey};
 
@@ -31,6 +31,14 @@ impl KeyRing {
         KeyRing {
             keys: BTreeMap::new(alloc),
         }
+    }
+
+    /// The same keys.
+    pub fn copy(&self) -> Result<KeyRing, Memory>
+        ensures { IfOk result (λ ring. ring ≡ self.now) }
+    {
+        let keys = self.keys.clone()?;
+        Ok(KeyRing { keys })
     }
 
     /// The key of a generation.

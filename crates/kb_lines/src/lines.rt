@@ -159,9 +159,9 @@ pub enum Line {
     Merged {
         device: DeviceName,
         revision: u32,
-        copies: u32,
-        renamed: u32,
-        joined: u32,
+        copies: u64,
+        renamed: u64,
+        joined: u64,
     },
     Status {
         device: DeviceName,
@@ -195,12 +195,12 @@ pub enum Line {
     },
     /// The head of the folder's history in a block of workers; so many entries follow.
     FolderCell {
-        entries: u32,
+        entries: u64,
     },
     /// The head of a device's history in a block.
     Cell {
         device: DeviceName,
-        entries: u32,
+        entries: u64,
     },
     /// What a worker of a block asked for, and the answer. Workers are numbered from 1.
     Entry {

@@ -65,7 +65,7 @@ fn push_marks(text: &mut String, branched: bool, flight: bool) -> Result<(), All
     writeln!(text, " {} {}", branch_text(branched), flight_text(flight))
 }
 
-fn push_report(text: &mut String, copies: u32, renamed: u32, joined: u32) -> Result<(), AllocError>
+fn push_report(text: &mut String, copies: u64, renamed: u64, joined: u64) -> Result<(), AllocError>
     ensures { OnOk result (string_bytes text.new ≡ string_bytes text.old ++ (codes " copies " ++ decimal copies ++ codes " renamed " ++ decimal renamed ++ codes " joined " ++ decimal joined ++ codes "\n")) }
 {
     writeln!(text, " copies {copies} renamed {renamed} joined {joined}")

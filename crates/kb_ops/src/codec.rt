@@ -1,6 +1,7 @@
 //! Operations as bytes.
-ghost use Rattle.std.specs.Prelude.{◌≡◌, IfOk, OnOk};
+ghost use Rattle.std.specs.Prelude.{◌≡◌, ◌++◌, IfOk, OnOk};
 ghost use Rattle.kb_ops.specs.Grammar.{op_text, IsOp, IsNoOp, IsProper, ReadsBack};
+ghost use Rattle.kb_ops.specs.Parses.{Parses};
 
 use super::decode::read_op;
 use super::encode::{put_op, room_of};
@@ -29,6 +30,22 @@ impl Op {
         ensures again { ReadsBack bytes.now result }
     {
         read_all(alloc, bytes)
+    }
+
+    /// Writes the bytes that spell the operation behind what was written.
+    pub fn put(&self, writer: &mut Writer) -> Result<(), Memory>
+        requires { IsProper self.now }
+        ensures text { OnOk result (writer.new ≡ writer.old ++ op_text self.now) }
+        ensures op { OnOk result (IsOp self.now) }
+    {
+        put_op(writer, self)
+    }
+
+    /// The operation that the bytes left spell in front. What stands behind it is left.
+    pub fn read(alloc: Global, reader: &mut Reader) -> Result<Op, OpFault>
+        ensures { Parses (λ op. op) op_text IsOp reader.old reader.new result }
+    {
+        read_op(alloc, reader)
     }
 }
 

@@ -14,7 +14,8 @@ mod values;
 
 pub use faults::OpFault;
 pub use laws::{
-    fold_law, join_law, kept_law, kinds_law, others_law, plan_law, planned_law, start_law,
+    fold_law, join_law, kept_law, kinds_law, others_law, plan_law, planned_law, proper_law,
+    spelling_law, start_law,
 };
 pub use requests::{PlanFault, Planned, Request, Show, Shown, Word};
 pub use rows::{Change, Op, Row, WalkFault};

@@ -23,6 +23,7 @@ use Rattle.kb_rules.specs.Three.{is_split_by, is_split}
 use Rattle.kb_rules.specs.declared.stamp.Stamp.{Stamp}
 use Rattle.kb_rules.specs.Merge.{copy_id, copied, with_copies, copy_ids, put_ids, three, conflicted}
 use Rattle.kb_rules.specs.Ready.{is_in, CanMerge}
+use Rattle.kb_rules.proofs.Alike.{may_kinds, may_files}
 use Rattle.kb_rules.proofs.Ready.{CanName}
 use Rattle.kb_rules.specs.Meet.{Meet}
 use Rattle.kb_rules.proofs.Basics.{bool_cases, not_true, not_both, first_of_both, second_of_both, not_was, when, unless, same_some, none_some}
@@ -283,6 +284,8 @@ module _ (b m u : Tree) (stamp : Stamp) (meet : Meet b m u stamp) where
     kinds = λ q r s hm h. kinds q r s hm (shared q r s hm h);
     common = λ q r s hm h. meet.common q (ap is_some hm) (ap is_some (shared q r s hm h));
     merged_in = λ q r h. put_ids_keeps (copy_ids stamp 1 splits) _ q (put_ids_keeps (map.keys u) (map.keys m) q (in_keys m q ∙ ap is_some h));
+    joined_kinds = λ x y h. may_kinds stamp.rule (look b) (λ q. is_some (copied stamp splits q)) x y h;
+    joined_files = λ x y h file. may_files stamp.rule (look b) (λ q. is_some (copied stamp splits q)) x y h file;
     ours_in = λ q r h. elim (with_cases stamp splits (look u) q r h) [
       | inl c ↦
           let w = copied_is stamp splits (look u) q c.0 c.1 in

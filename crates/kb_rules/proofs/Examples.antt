@@ -1,5 +1,5 @@
 -- Merges of small trees, computed: each is what the words above it say.
-use Rattle.std.proofs.Common.{◌≡◌, ℕ, false, List, [], ◌∷◌, length, map, Option, refl}
+use Rattle.std.proofs.Common.{true, ◌≡◌, ℕ, false, List, [], ◌∷◌, length, map, Option, refl}
 use Rattle.std.specs.Prelude.{find, codes}
 use Rattle.std.specs.List.{filter_map}
 use Rattle.std.specs.Fmt.{digits}
@@ -28,7 +28,7 @@ abbrev pub file : NodeId → NodeId → List ℕ → List ℕ → Row
 file id parent name bytes = record { id = id; parent = parent; name = name; kind = File; bytes = bytes; exec = false; mtime = 0 }
 
 abbrev pub phone : ℕ → Stamp
-phone last = record { device = 2; name = codes "phone"; last = last; moment = 1714521600 }
+phone last = record { device = 2; name = codes "phone"; last = last; moment = 1714521600; rule = 1 }
 
 abbrev pub among : List Row → NodeId → Option Row
 among rows q = find (λ (r : Row). same_node r.id q) rows
@@ -42,11 +42,15 @@ pub record Told : Type 0 where
   pub renamed : ℕ
   pub joined : ℕ
 
--- the rows of a merge by phone with this last seq, in the order of their ids, and how many copies, names given and joins there are
-abbrev pub told : ℕ → List Row → List Row → List Row → Told
-told last b m u =
-    let t = three_of (phone last) (among b) (among m) (among u) (ids m) (ids u) in
+-- the rows of a merge, in the order of their ids, and how many copies, names given and joins there are
+abbrev pub told_by : Stamp → List Row → List Row → List Row → Told
+told_by stamp b m u =
+    let t = three_of stamp (among b) (among m) (among u) (ids m) (ids u) in
     record { rows = filter_map (result t) t.ids; copies = length (split_among (among b) (among m) (among u) (ids m)); renamed = length (given t); joined = joins t }
+
+-- of a merge by phone with this last seq, by the first rule
+abbrev pub told : ℕ → List Row → List Row → List Row → Told
+told last b m u = told_by (phone last) b m u
 
 -- ---- both wrote one file: the merged bytes keep the name, ours stand beside it
 
@@ -245,3 +249,37 @@ moved_result = root_row ∷ file (node 1 1) (node 1 2) (codes "f") (codes "new")
 moved : told 1 moved_base moved_merged moved_ours ≡ record { rows = moved_result; copies = 0; renamed = 0; joined = 0 }
 unfolding conflicted
 moved = refl
+
+-- ---- both made one file with one content: by the second rule it is one
+
+abbrev equal_merged : List Row
+equal_merged = root_row ∷ file (node 1 1) root (codes "x") (codes "s") ∷ []
+
+abbrev equal_ours : List Row
+equal_ours = root_row ∷ file (node 2 1) root (codes "x") (codes "s") ∷ file (node 2 3) root (codes "y") [] ∷ []
+
+abbrev second : ℕ → Stamp
+second last = record (phone last) { rule = 2 }
+
+equal_one : told_by (second 3) (root_row ∷ []) equal_merged equal_ours ≡ record { rows = root_row ∷ file (node 1 1) root (codes "x") (codes "s") ∷ file (node 2 3) root (codes "y") [] ∷ []; copies = 0; renamed = 0; joined = 1 }
+unfolding conflicted
+equal_one = refl
+
+-- by the first rule it is two
+abbrev equal_two_rows : List Row
+equal_two_rows = root_row ∷ file (node 1 1) root (codes "x") (codes "s") ∷ file (node 2 1) root (codes "x.conflicted (phone copy 2024-05-01)") (codes "s") ∷ file (node 2 3) root (codes "y") [] ∷ []
+
+equal_two : told 3 (root_row ∷ []) equal_merged equal_ours ≡ record { rows = equal_two_rows; copies = 0; renamed = 1; joined = 0 }
+unfolding conflicted
+equal_two = refl
+
+-- and so it is where one alone may be run
+abbrev run_ours : List Row
+run_ours = root_row ∷ record (file (node 2 1) root (codes "x") (codes "s")) { exec = true } ∷ []
+
+abbrev run_rows : List Row
+run_rows = root_row ∷ file (node 1 1) root (codes "x") (codes "s") ∷ record (file (node 2 1) root (codes "x.conflicted (phone copy 2024-05-01)") (codes "s")) { exec = true } ∷ []
+
+run_two : told_by (second 2) (root_row ∷ []) equal_merged run_ours ≡ record { rows = run_rows; copies = 0; renamed = 1; joined = 0 }
+unfolding conflicted
+run_two = refl

@@ -1,12 +1,11 @@
 -- No bytes are lost: a file that is new or has new bytes on one side is in the result with them.
-use Rattle.std.proofs.Common.{◌≡◌, ◌≢◌, ℕ, ◌≤◌, ◌<◌, Bool, true, false, not, List, length, inl, inr, ◌&&◌, ◌||◌, Option, Some, None, IsSome, refl, sym, ap, ◌∙◌, arith}
+use Rattle.std.proofs.Common.{◌≡◌, ◌≢◌, ℕ, ◌≤◌, ◌<◌, Bool, true, false, not, List, length, ◌⊎◌, inl, inr, ◌&&◌, ◌||◌, Option, Some, None, IsSome, refl, sym, ap, ◌∙◌, arith}
 use mathlib.Core.Bool.{true≢false}
 use Rattle.std.specs.Option.{option_map, option_and_then}
 use Rattle.std.specs.Str.{bytes_eq}
 use Rattle.kb_name.specs.declared.ids.NodeId.{NodeId}
 use Rattle.kb_ops.specs.declared.values.Kind.TheVariants.{File}
 use Rattle.kb_ops.specs.declared.rows.Row.{Row}
-use Rattle.kb_ops.specs.Rows.{is_dir_row, is_dir_kind}
 use Rattle.kb_ops.proofs.Walks.{row_cases}
 use Rattle.kb_ops.specs.Plan.{is_file_kind}
 use Rattle.kb_rules.specs.Three.{Three, same_place, same_row, same_content, is_base, stays_by, stays, fields_by, fields, mixed, same_kind, is_parted, is_split_by}
@@ -16,10 +15,10 @@ use Rattle.kb_rules.specs.Names.{given, given_name, result}
 use Rattle.kb_rules.specs.Ready.{CanMerge}
 use Rattle.kb_rules.proofs.Ready.{CanName}
 use Rattle.kb_rules.specs.Laws.{HasBytes, IsNewFile, IsNameOf}
-use Rattle.kb_rules.proofs.Basics.{bool_cases, not_true, not_both, both, first_of_both, second_of_both, not_is, when, unless, same_some, bytes_same}
+use Rattle.kb_rules.proofs.Basics.{bool_cases, not_true, not_both, both, first_of_both, second_of_both, not_is, when, unless, same_some, none_some, bytes_same}
 use Rattle.kb_rules.proofs.Reaching.{seat_cases, seat_ours, seat_of_ours, seat_of_merged}
 use Rattle.kb_rules.proofs.Keeps.{stays_kept, both_stay}
-use Rattle.kb_rules.proofs.Joined.{joins, merged_stays, standing_row, standing_was}
+use Rattle.kb_rules.proofs.Joined.{Joins, joins, into_cases, host_seat, merged_stays, standing_row, standing_was}
 use Rattle.kb_rules.proofs.Named.{given_at, given_id, all_given, name_cases}
 
 -- a row with other bytes is another row
@@ -83,17 +82,15 @@ module _ (n m : ℕ) (t : Three) (ready : CanName n m t) where
             has_bytes q at.0 r r.bytes (stays_kept n m t can q ((λ i. stays_by (h i) (none i) (t.base q)) ∙ not_base r (t.base q) new)) (merged_stays t (length t.ids) q r h) at.1 (λ i. fields_by (h i) (none i) (t.base q)) new.file refl
       ]
 
-  no_file_joins : (q : NodeId) (s : Row) → t.ours q ≡ Some s → s.kind ≡ File → joined t q ≡ None
-  no_file_joins q s h file = elim (joined t q) as (λ o. joined t q ≡ o → o ≡ None) [
-    | Some a ↦ λ e.
-        let j = joins n m t can q a e in
-        let same : j.row ≡ s = same_some j.row s (t.ours q) j.found h in
-        not_both _ (first_of_both _ _ j.may) (ap is_dir_row same ∙ ap is_dir_kind file)
-    | None ↦ λ e. refl
-  ] refl
+  -- the name of what it is joined to is its own
+  host_named : (q : NodeId) (s : Row) → t.ours q ≡ Some s → (a : NodeId) (j : Joins t q a) → j.row ≡ s → (name : List ℕ) → IsNameOf t.conflicted (t.merged a) (t.ours a) name → IsNameOf t.conflicted (t.merged q) (t.ours q) name
+  host_named q s h a j same name (inl (inl x)) = inl (inr (s, h, x.2 ∙ ap (λ (z : Row). z.name) (same_some x.0 j.host (t.merged a) x.1 j.host_found) ∙ j.name ∙ ap (λ (z : Row). z.name) same))
+  host_named q s h a j same name (inl (inr x)) = none_some x.0 (t.ours a) j.host_new x.1
+  host_named q s h a j same name (inr x) = none_some x.0 (t.ours a) j.host_new x.1
 
-  -- a file of ours that is not split
-  pub our_bytes : (q : NodeId) (s : Row) → t.ours q ≡ Some s → IsNewFile s (t.base q) → is_split_by (t.merged q) (t.ours q) (t.base q) ≡ false → HasBytes (result t) q s.bytes (IsNameOf t.conflicted (t.merged q) (t.ours q))
+  -- a file of ours that is not split, or what it is joined to
+  pub our_bytes : (q : NodeId) (s : Row) → t.ours q ≡ Some s → IsNewFile s (t.base q) → is_split_by (t.merged q) (t.ours q) (t.base q) ≡ false
+      → (a : NodeId) × ((a ≡ q) ⊎ ((joined t q ≡ Some a) × Joins t q a)) × HasBytes (result t) a s.bytes (IsNameOf t.conflicted (t.merged q) (t.ours q))
   our_bytes q s h new whole =
       let at = seat_of_ours t q s h in
       elim (row_cases t.merged q) [
@@ -111,9 +108,18 @@ module _ (n m : ℕ) (t : Three) (ready : CanName n m t) where
                     (sym (λ i. is_split_by (r.1 i) (h i) (base.1 i)) ∙ whole)
               ]
             ] in
-            has_bytes q at.0 (mixed r.0 s base.0) s.bytes (stays_kept n m t can q (both_stay n m t can q r.0 s r.1 h)) (merged_stays t (length t.ids) q r.0 r.1) at.1 (λ i. fields_by (r.1 i) (h i) (base.1 i)) file keep
-        | inr none ↦
-            has_bytes q at.0 s s.bytes (stays_kept n m t can q ((λ i. stays_by (none i) (h i) (t.base q)) ∙ not_base s (t.base q) new)) (no_file_joins q s h new.file) at.1 (λ i. fields_by (none i) (h i) (t.base q)) new.file refl
+            (q, inl refl, has_bytes q at.0 (mixed r.0 s base.0) s.bytes (stays_kept n m t can q (both_stay n m t can q r.0 s r.1 h)) (merged_stays t (length t.ids) q r.0 r.1) at.1 (λ i. fields_by (r.1 i) (h i) (base.1 i)) file keep)
+        | inr none ↦ elim (into_cases t q) [
+          | inr apart ↦
+              (q, inl refl, has_bytes q at.0 s s.bytes (stays_kept n m t can q ((λ i. stays_by (none i) (h i) (t.base q)) ∙ not_base s (t.base q) new)) apart.0 at.1 (λ i. fields_by (none i) (h i) (t.base q)) new.file refl)
+          | inl to ↦
+              let j = joins n m t can q to.0 to.1 in
+              let same : j.row ≡ s = same_some j.row s (t.ours q) j.found h in
+              let file = can.joined_files j.row j.host j.may (ap (λ (z : Row). z.kind) same ∙ new.file) in
+              let bytes = file.1 ∙ ap (λ (z : Row). z.bytes) same in
+              let has = has_bytes to.0 j.host j.host s.bytes j.host_kept (merged_stays t (length t.ids) to.0 j.host j.host_found) (host_seat n m t can q to.0 j) (λ i. fields_by (j.host_found i) (j.host_new i) (t.base to.0)) file.0 bytes in
+              (to.0, inr (to.1, j), record { row = has.row; found = has.found; file = has.file; bytes_are = has.bytes_are; named = host_named q s h to.0 j same has.row.name has.named })
+        ]
       ]
     where
       split_is : (a b c : Bool) → a ≡ true → b ≡ true → (a && (b || c)) ≡ true

@@ -12,7 +12,7 @@ use Rattle.kb_ops.proofs.Walks.{IsAtMost, meets_here, meets_step, meets_from, me
 use Rattle.kb_ops.proofs.Kept.{dir_at, some_and}
 use Rattle.kb_rules.specs.Three.{Three}
 use Rattle.kb_rules.specs.Places.{seat, on_ours, is_kept}
-use Rattle.kb_rules.specs.Joins.{may_join, takes, joined_within, joined, into, is_left, standing}
+use Rattle.kb_rules.specs.Joins.{takes, joined_within, joined, into, is_left, standing}
 use Rattle.kb_rules.specs.Ready.{CanMerge}
 use Rattle.kb_rules.proofs.Basics.{not_both, both, first_of_both, second_of_both, no_second, not_was, when, unless, same_some, none_some, found_passes, listed_most, bytes_same}
 use Rattle.kb_rules.proofs.Reaching.{seat_cases, seat_new, seat_theirs, seat_reaches}
@@ -28,7 +28,7 @@ pub record Joins (t : Three) (q a : NodeId) : Type 0 where
   pub host_new : t.ours a ≡ None
   pub host : Row
   pub host_found : t.merged a ≡ Some host
-  pub may : may_join row host ≡ true
+  pub may : t.may row host ≡ true
   pub parent : host.parent ≡ into t row.parent
   pub name : host.name ≡ row.name
 
@@ -47,9 +47,6 @@ chosen false o x h = none_some x None refl h
 pub then_some : {A B : Type 0} (f : A → Option B) (o : Option A) (y : B) → option_and_then f o ≡ Some y → (x : A) × (o ≡ Some x) × (f x ≡ Some y)
 then_some f None y h = none_some y None refl h
 then_some f (Some x) y h = (x, refl, h)
-
-same_kinds : (b a : Row) → may_join b a ≡ true → is_dir_row b ≡ is_dir_row a
-same_kinds b a h = first_of_both _ _ h ∙ sym (second_of_both _ _ h)
 
 module _ (t : Three) where
   abbrev pub next : (NodeId → NodeId) → NodeId → Option NodeId
@@ -129,7 +126,7 @@ module _ (n m : ℕ) (t : Three) (can : CanMerge n m t) where
       let w = then_some _ (t.ours q) a c.1 in
       let f = found_passes (takes t w.0 (into t w.0.parent)) t.ids a w.2 in
       let rest = second_of_both _ _ f in
-      let x = passes_row (λ (r : Row). may_join w.0 r && (same_node r.parent (into t w.0.parent) && bytes_eq r.name w.0.name)) (t.merged a) (second_of_both _ _ rest) in
+      let x = passes_row (λ (r : Row). t.may w.0 r && (same_node r.parent (into t w.0.parent) && bytes_eq r.name w.0.name)) (t.merged a) (second_of_both _ _ rest) in
       let place = second_of_both _ _ x.2 in
       record {
         kept = first_of_both _ _ c.0;
@@ -236,7 +233,7 @@ module _ (n m : ℕ) (t : Three) (can : CanMerge n m t) where
         | inl x ↦
             let j = joins w.0.parent x.0 x.1 in
             let same : p.0 ≡ j.row = same_some p.0 j.row (seat t w.0.parent) p.1 (seat_new t w.0.parent j.row j.new j.found) in
-            (record j.host { parent = into t j.host.parent }, ap (standing t) (is ∙ x.2) ∙ host_stands w.0.parent x.0 j, sym (ap is_dir_row same ∙ same_kinds j.row j.host j.may) ∙ p.2)
+            (record j.host { parent = into t j.host.parent }, ap (standing t) (is ∙ x.2) ∙ host_stands w.0.parent x.0 j, sym (ap is_dir_row same ∙ can.joined_kinds j.row j.host j.may) ∙ p.2)
         | inr x ↦ (record p.0 { parent = into t p.0.parent }, ap (standing t) (is ∙ x.1) ∙ standing_row t w.0.parent p.0 up x.0 p.1, p.2)
       ]
 

@@ -1,5 +1,5 @@
 -- The laws of a merge of trees.
-use Rattle.std.proofs.Common.{◌≡◌, ℕ, ◌*◌, ◌^◌, ◌<◌, Bool, true, false, not, List, [], ◌∷◌, inl, inr, ◌&&◌, ◌||◌, cond, Option, Some, None, refl, sym, ap, subst, ◌∙◌, arith, slice_get, ◌+◌, ◌-◌, nat_eq}
+use Rattle.std.proofs.Common.{is_some, ◌⊎◌, ◌≡◌, ℕ, ◌*◌, ◌^◌, ◌<◌, Bool, true, false, not, List, [], ◌∷◌, inl, inr, ◌&&◌, ◌||◌, cond, Option, Some, None, refl, sym, ap, subst, ◌∙◌, arith, slice_get, ◌+◌, ◌-◌, nat_eq}
 use borrow.Author.Tests.{eqb-true}
 use Rattle.std.specs.Prelude.{filter}
 use Rattle.std.specs.Option.{option_map}
@@ -17,9 +17,13 @@ use Rattle.kb_rules.specs.Names.{result}
 use Rattle.kb_rules.specs.declared.stamp.Stamp.{Stamp}
 use Rattle.kb_rules.specs.Merge.{copy_id, copied, with_copies, three, merge, conflicted}
 use Rattle.kb_rules.specs.Ready.{is_in}
+use Rattle.kb_ops.specs.declared.values.Kind.TheVariants.{File}
+use Rattle.kb_rules.specs.Joins.{joined}
+use Rattle.kb_rules.proofs.Joined.{Joins}
+use Rattle.kb_rules.proofs.Alike.{second_rule, no_copy}
 use Rattle.kb_rules.proofs.Ready.{CanName}
 use Rattle.kb_rules.specs.Meet.{Meet}
-use Rattle.kb_rules.specs.Laws.{IsNameOf, HasBytes, KeepsOurs, KeepsMerged, Laws}
+use Rattle.kb_rules.specs.Laws.{IsFileOf, IsNameOf, HasBytes, KeepsOurs, KeepsMerged, Laws}
 use Rattle.kb_rules.proofs.Basics.{bool_cases, not_true, not_both, both, no_second, not_is, when, unless, same_some, none_some, bytes_self}
 use Rattle.kb_rules.proofs.Formed.{result_was, standing_in, result_formed}
 use Rattle.kb_rules.proofs.Whole.{place_self}
@@ -115,27 +119,42 @@ module _ (b m u : Tree) (stamp : Stamp) (meet : Meet b m u stamp) (naming : IsNa
       let positive : nat_eq (at.0 + 1) 0 ≡ false = not_true _ (λ e. let z : at.0 + 1 ≡ 0 = eqb-true (at.0 + 1) 0 e in omega (arith, z)) in
       (copy_id stamp (at.0 + 1), when _ _ None (both _ _ (node_self (copy_id stamp (at.0 + 1))) (not_is _ positive)) ∙ ap (slice_get (splits b m u stamp meet)) back ∙ at.1)
 
+  -- what a file of ours with copies is joined to
+  abbrev Place : NodeId → NodeId → Type 0
+  Place q a = (a ≡ q) ⊎ ((joined t q ≡ Some a) × Joins t q a)
+
+  by_second : (q a : NodeId) (s : Row) → ours b m u stamp meet q ≡ Some s → s.kind ≡ File → Joins t q a → stamp.rule ≡ 2
+  by_second q a s at file j =
+      eqb-true stamp.rule 2 (second_rule stamp.rule (look b) (λ x. is_some (copied stamp (splits b m u stamp meet) x)) j.row j.host j.may (ap (λ (z : Row). z.kind) (same_some j.row s (ours b m u stamp meet q) j.found at) ∙ file)).0
+
   keeps_ours : KeepsOurs b m u stamp
   keeps_ours f s h new = elim (bool_cases (is_split (look b) (look m) (look u) f)) [
-    | inr e ↦
-        let same = unsplit f s h e in (
-          f,
-          inl refl,
-          there f s.bytes _ _ (λ n x. renamed (conflicted stamp) (look m f) (ours b m u stamp meet f) (look m f) (look u f) n (λ z e. (z, e, refl)) (λ z k. (z, sym same ∙ k, refl)) x)
-              (our_bytes (map.len m) (map.len u) t ready f s (same ∙ h) new (ap (λ o. is_split_by (look m f) o (look b f)) same ∙ e)),
-        )
-    | inl e ↦
+    | inr e ↦ (
+        let same = unsplit f s h e in
+        let to = our_bytes (map.len m) (map.len u) t ready f s (same ∙ h) new (ap (λ o. is_split_by (look m f) o (look b f)) same ∙ e) in
+        let place : Place f to.0 → IsFileOf b m u stamp f to.0 = λ p. elim p [ inl at ↦ inl (inl at) | inr j ↦ inr (by_second f to.0 s (same ∙ h) new.file j.1, j.0) ] in (
+          to.0,
+          place to.1,
+          there to.0 s.bytes _ _ (λ n x. renamed (conflicted stamp) (look m f) (ours b m u stamp meet f) (look m f) (look u f) n (λ z e. (z, e, refl)) (λ z k. (z, sym same ∙ k, refl)) x) to.2,
+        ))
+    | inl e ↦ (
         let c = copy_at f e in
         let at : ours b m u stamp meet c.0 ≡ Some (record s { id = c.0 }) = with_copy stamp (splits b m u stamp meet) (look u) c.0 f c.1 ∙ ap (option_map (λ (r : Row). record r { id = c.0 })) h in
         let none_b = copy_not_in b m u stamp meet b meet.no_base_copies c.0 f c.1 in
-        let none_m = copy_not_in b m u stamp meet m meet.no_merged_copies c.0 f c.1 in (
-          c.0,
-          inr c.1,
-          there c.0 s.bytes _ _
+        let none_m = copy_not_in b m u stamp meet m meet.no_merged_copies c.0 f c.1 in
+        let to = our_bytes (map.len m) (map.len u) t ready c.0 (record s { id = c.0 }) at (record { file = new.file; other = λ o k. none_some o (look b c.0) none_b k })
+        (ap (λ o. is_split_by o (ours b m u stamp meet c.0) (look b c.0)) none_m) in
+        let not_joined : Joins t c.0 to.0 → ⊥ = λ j. (
+        let row = same_some j.row (record s { id = c.0 }) (ours b m u stamp meet c.0) j.found at in
+        no_copy stamp.rule (look b) (λ x. is_some (copied stamp (splits b m u stamp meet) x)) j.row j.host j.may (ap (λ (z : Row). z.kind) row ∙ new.file)
+        (ap (λ (z : Row). is_some (copied stamp (splits b m u stamp meet) z.id)) row ∙ ap is_some c.1)) in
+        let place : Place c.0 to.0 → IsFileOf b m u stamp f to.0 = λ p. elim p [ inl is ↦ inl (inr (ap (copied stamp (splits b m u stamp meet)) is ∙ c.1)) | inr j ↦ absurd (not_joined j.1) ] in (
+          to.0,
+          place to.1,
+          there to.0 s.bytes _ _
               (λ n x. renamed (conflicted stamp) (look m c.0) (ours b m u stamp meet c.0) (look m f) (look u f) n (λ z k. none_some z (look m c.0) none_m k) (λ z k. (s, h, sym (ap (λ (y : Row). y.name) (same_some (record s { id = c.0 }) z (ours b m u stamp meet c.0) at k)))) x)
-              (our_bytes (map.len m) (map.len u) t ready c.0 (record s { id = c.0 }) at (record { file = new.file; other = λ o k. none_some o (look b c.0) none_b k })
-              (ap (λ o. is_split_by o (ours b m u stamp meet c.0) (look b c.0)) none_m)),
-        )
+              to.2,
+        ))
   ]
 
   all_ours : splits b m u stamp meet ≡ [] → (q : NodeId) → ours b m u stamp meet q ≡ look u q

@@ -33,3 +33,4 @@ pub mod TreeRows
 pub mod CheckFacts
 pub mod Pairs
 pub mod Merges
+pub mod Alike

@@ -13,7 +13,7 @@ use Rattle.kb_ops.proofs.Nodes.{node_is, node_self}
 use Rattle.kb_ops.proofs.Kept.{some_and}
 use Rattle.kb_rules.specs.declared.stamp.Stamp.{Stamp}
 use Rattle.kb_rules.specs.Three.{Three}
-use Rattle.kb_rules.specs.Joins.{may_join, takes, joined, into}
+use Rattle.kb_rules.specs.Joins.{takes, joined, into}
 use Rattle.kb_rules.specs.Names.{taken, first_free}
 use Rattle.kb_rules.specs.Merge.{conflicted, three}
 use Rattle.kb_rules.specs.Meet.{Meet}
@@ -65,7 +65,7 @@ module _ (n m : ℕ) (t : Three) (ready : CanName n m t) where
   one_joined : (b a : NodeId) → AreOne t b a → joined t b ≡ Some a
   one_joined b a one =
       let place : (same_node one.host.parent (into t one.row.parent) && bytes_eq one.host.name one.row.name) ≡ true = both _ _ (ap (λ z. same_node z (into t one.row.parent)) one.parent ∙ node_self (into t one.row.parent)) (ap (λ z. bytes_eq z one.row.name) one.name ∙ bytes_self one.row.name) in
-      let passes : takes t one.row (into t one.row.parent) a ≡ true = both _ _ one.host_kept (both _ _ (ap (λ o. not (is_some o)) one.host_new) (ap (λ o. option_map_or (λ (r : Row). may_join one.row r && (same_node r.parent (into t one.row.parent) && bytes_eq r.name one.row.name)) o false) one.host_found ∙ both _ _ one.may place)) in
+      let passes : takes t one.row (into t one.row.parent) a ≡ true = both _ _ one.host_kept (both _ _ (ap (λ o. not (is_some o)) one.host_new) (ap (λ o. option_map_or (λ (r : Row). t.may one.row r && (same_node r.parent (into t one.row.parent) && bytes_eq r.name one.row.name)) o false) one.host_found ∙ both _ _ one.may place)) in
       let w = find_some (takes t one.row (into t one.row.parent)) t.ids a (can.merged_in a one.host one.host_found) passes in
       let is : joined t b ≡ Some w.0 = joined_step n m t can b
       ∙ when _ _ None (both _ _ one.kept (ap (λ o. not (is_some o)) one.new))

@@ -24,12 +24,12 @@ module _ (s : Sides) (base : rises s.base.now ≡ true) (merged : rises s.merged
     (split : s.splits.now ≡ split_among (row_in s.base.now) (row_in s.merged.now) (row_in s.ours.now) (ids_of s.merged.now))
     (copies : s.copies.now ≡ copies_of s.stamp.now 1 s.splits.now (row_in s.ours.now))
     (ids : s.ids.now ≡ put_ids (copy_ids s.stamp.now 1 s.splits.now) (put_ids (ids_of s.ours.now) (ids_of s.merged.now)))
-    (meet : Meet (tree_of s.base.now) (tree_of s.merged.now) (tree_of s.ours.now) s.stamp.now) where
+    (meet : Meet (tree_of s.base.now) (tree_of s.merged.now) (tree_of s.ours.now) s.stamp.now) (rule : s.stamp.now.rule ≡ 1) where
   abbrev t : Three
   t = three (tree_of s.base.now) (tree_of s.merged.now) (tree_of s.ours.now) s.stamp.now
 
   same : named_three s ≡ t
-  same = three_is s base merged ours split copies ids
+  same = three_is s base merged ours split copies ids rule
 
   module _ (device : is_device_name s.stamp.now.name ≡ true) (moment : s.stamp.now.moment ≤ last_second) (lm : length s.merged.now < 2 ^ 57) (lu : length s.ours.now < 2 ^ 57) where
     keyed : IsKeyed (result t)
@@ -39,7 +39,7 @@ module _ (s : Sides) (base : rises s.base.now ≡ true) (merged : rises s.merged
         ap (λ (z : Row). z.id) w.3 ∙ w.4.id
 
     up : ascend t.ids ≡ true
-    up = ap (λ (z : Three). ascend z.ids) (sym same) ∙ (sides_are s base merged ours split copies ids meet).ids
+    up = ap (λ (z : Three). ascend z.ids) (sym same) ∙ (sides_are s base merged ours split copies ids meet rule).ids
 
     rows_same : filter_map (result (named_three s)) s.ids.now ≡ filter_map (result t) t.ids
     rows_same = ap (λ (z : Three). filter_map (result z) z.ids) same

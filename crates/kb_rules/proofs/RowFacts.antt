@@ -13,7 +13,7 @@ use Rattle.kb_rules.specs.declared.sides.Sides.{Sides}
 use Rattle.kb_rules.specs.Three.{fields, fields_by}
 use Rattle.kb_rules.specs.Joins.{joined}
 use Rattle.kb_rules.specs.Merge.{joins}
-use Rattle.kb_rules.specs.Names.{Given, given, given_name, result}
+use Rattle.kb_rules.specs.Names.{Given, given, given_name, result, result_with}
 use Rattle.kb_rules.specs.Code.{base_in, merged_in, ours_in, into_in, left_in, joined_in}
 use Rattle.kb_rules.specs.Naming.{named_three, given_to, row_by}
 use Rattle.kb_rules.proofs.NamingFacts.{stands_placed}
@@ -42,11 +42,15 @@ left_row : (s : Sides) (gs : List Given) (q : NodeId) (o : Option Row) →
 left_row s gs q None = refl
 left_row s gs q (Some r) = λ i. with_place (into_in s r.parent) (name_or (find (λ (g : Given). same_node g.id q) gs) r.name i) (same_fields s q i)
 
-row_is : (s : Sides) (q : NodeId) → row_by s (given_to (given (named_three s)) q) q ≡ result (named_three s) q
+-- whatever names were given
+pub row_with : (s : Sides) (gs : List Given) (q : NodeId) → row_by s (given_to gs q) q ≡ result_with (named_three s) gs q
 unfolding row_by
-row_is s q =
-    left_row s (given (named_three s)) q (left_in s q)
-    ∙ ap (λ o. option_and_then (λ (r : Row). with_place r.parent (given_name (given (named_three s)) q r.name) (fields (named_three s) q)) o) (sym (stands_placed s q))
+row_with s gs q =
+    left_row s gs q (left_in s q)
+    ∙ ap (λ o. option_and_then (λ (r : Row). with_place r.parent (given_name gs q r.name) (fields (named_three s) q)) o) (sym (stands_placed s q))
+
+row_is : (s : Sides) (q : NodeId) → row_by s (given_to (given (named_three s)) q) q ≡ result (named_three s) q
+row_is s q = row_with s (given (named_three s)) q
 
 pub rows_are : (s : Sides) (name : NodeId → Option (List ℕ)) → ((q : NodeId) → name q ≡ given_to (given (named_three s)) q) → (ids : List NodeId) → filter_map (λ q. row_by s (name q) q) ids ≡ filter_map (result (named_three s)) ids
 rows_are s name e [] = refl

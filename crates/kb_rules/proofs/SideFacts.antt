@@ -18,11 +18,12 @@ use Rattle.kb_ops.proofs.Lists.{less_is, look_of}
 use Rattle.kb_rules.specs.declared.stamp.Stamp.{Stamp}
 use Rattle.kb_rules.specs.declared.sides.Sides.{Sides}
 use Rattle.kb_rules.specs.Three.{Three, is_split}
-use Rattle.kb_rules.specs.Merge.{conflicted, copy_id, copy_ids, put_id, put_ids, split_among, splits, with_copies, three_of, three}
+use Rattle.kb_rules.specs.Merge.{copied, conflicted, copy_id, copy_ids, put_id, put_ids, split_among, splits, with_copies, three_of, three}
 use Rattle.kb_rules.specs.Meet.{Meet}
 use Rattle.kb_rules.specs.Ready.{is_in, CanMerge}
 use Rattle.kb_rules.specs.Code.{above, ascend, row_in, ids_of, copies_of, AreSides}
 use Rattle.kb_rules.specs.Naming.{named_three}
+use Rattle.kb_rules.proofs.Alike.{first_rule}
 use Rattle.kb_rules.proofs.Basics.{not_both, both, first_of_both, second_of_both}
 use Rattle.kb_rules.proofs.Ids.{rises_filter, in_filter, put_ids_le, filter_le}
 use Rattle.kb_rules.proofs.Copies.{split_is, can_merge, copies_le}
@@ -81,7 +82,7 @@ copies_all stamp j (s ∷ splits) u h =
 
 -- the trees don't depend on the conflicted names
 can_still : (n m : ℕ) (t : Three) (c : List ℕ → ℕ → List ℕ) → CanMerge n m t → CanMerge n m (record t { conflicted = c })
-can_still n m t c can = record { merged = can.merged; ours = can.ours; kinds = can.kinds; common = can.common; merged_in = can.merged_in; ours_in = can.ours_in }
+can_still n m t c can = record { merged = can.merged; ours = can.ours; kinds = can.kinds; common = can.common; merged_in = can.merged_in; ours_in = can.ours_in; joined_kinds = can.joined_kinds; joined_files = can.joined_files }
 
 module _ (s : Sides) (base : rises s.base.now ≡ true) (merged : rises s.merged.now ≡ true) (ours : rises s.ours.now ≡ true)
     (split : s.splits.now ≡ split_among (row_in s.base.now) (row_in s.merged.now) (row_in s.ours.now) (ids_of s.merged.now))
@@ -97,27 +98,28 @@ module _ (s : Sides) (base : rises s.base.now ≡ true) (merged : rises s.merged
   u = s.ours.now
 
   -- the three trees of the code are those of the definition
-  pub three_is : named_three s ≡ three (tree_of b) (tree_of m) (tree_of u) s.stamp.now
-  three_is = (λ i. record {
+  pub three_is : s.stamp.now.rule ≡ 1 → named_three s ≡ three (tree_of b) (tree_of m) (tree_of u) s.stamp.now
+  three_is rule = (λ i. record {
     base = row_in b;
     merged = row_in m;
     ours = with_copies s.stamp.now (split i) (row_in u);
     ids = (ids ∙ ap (λ xs. put_ids (copy_ids s.stamp.now 1 xs) (put_ids (ids_of u) (ids_of m))) split) i;
     conflicted = conflicted s.stamp.now;
+    may = first_rule s.stamp.now.rule rule (row_in b) (λ q. is_some (copied s.stamp.now (split_among (row_in b) (row_in m) (row_in u) (ids_of m)) q)) i;
   })
       ∙ sym (same_three b m u s.stamp.now base merged ours)
 
   pub splits_are : s.splits.now ≡ splits (tree_of b) (tree_of m) (tree_of u)
   splits_are = split ∙ sym (same_splits b m u base merged ours)
 
-  module _ (meet : Meet (tree_of b) (tree_of m) (tree_of u) s.stamp.now) where
+  module _ (meet : Meet (tree_of b) (tree_of m) (tree_of u) s.stamp.now) (rule : s.stamp.now.rule ≡ 1) where
     pub sides_are : AreSides s
     sides_are =
         let can = can_merge (tree_of b) (tree_of m) (tree_of u) s.stamp.now meet in
         record {
           n = map.len (tree_of m);
           m = map.len (tree_of u);
-          can = can_still (map.len (tree_of m)) (map.len (tree_of u)) (named_three s) (λ name k. name) (subst (CanMerge (map.len (tree_of m)) (map.len (tree_of u))) (sym three_is) can);
+          can = can_still (map.len (tree_of m)) (map.len (tree_of u)) (named_three s) (λ name k. name) (subst (CanMerge (map.len (tree_of m)) (map.len (tree_of u))) (sym (three_is rule)) can);
           base = base;
           merged = merged;
           ours = ours;

@@ -13,7 +13,7 @@ use Rattle.kb_rules.specs.declared.sides.Sides.{Sides}
 use Rattle.kb_rules.specs.declared.seats.Seats.{Seats}
 use Rattle.kb_rules.specs.Three.{Three, stays}
 use Rattle.kb_rules.specs.Places.{is_moved, guess, is_lost, on_ours, seat, is_kept}
-use Rattle.kb_rules.specs.Joins.{joined, into, is_left}
+use Rattle.kb_rules.specs.Joins.{may_join, joined, into, is_left}
 use Rattle.kb_rules.specs.Merge.{copy_id, with_copies}
 use Rattle.kb_rules.specs.Ready.{CanMerge}
 
@@ -75,7 +75,7 @@ copies_of stamp j (s ∷ splits) u = cons_option (option_map (λ (r : Row). reco
 
 -- no stage before that of names looks at the conflicted names
 abbrev pub three_in : Sides → Three
-three_in s = record { base = row_in s.base.now; merged = row_in s.merged.now; ours = with_copies s.stamp.now s.splits.now (row_in s.ours.now); ids = s.ids.now; conflicted = λ name k. name }
+three_in s = record { base = row_in s.base.now; merged = row_in s.merged.now; ours = with_copies s.stamp.now s.splits.now (row_in s.ours.now); ids = s.ids.now; conflicted = λ name k. name; may = may_join }
 
 pub record AreSides (s : Sides) : Type 0 where
   pub n : ℕ

@@ -1,4 +1,4 @@
--- Directories that merged lacks which become one with directories that ours lacks, from the root downwards.
+-- Rows that merged lacks which become one with rows that ours lacks, from the root downwards.
 use Rattle.std.specs.Prelude.{ℕ, zero, suc, Bool, false, not, ◌&&◌, length, find, if◌then◌else◌, Option, None}
 use Rattle.std.specs.Option.{is_some, option_and_then, option_map, option_map_or, unwrap_or}
 use Rattle.std.specs.Str.{bytes_eq}
@@ -9,13 +9,13 @@ use Rattle.kb_ops.specs.Rows.{Look, is_dir_row}
 use Rattle.kb_rules.specs.Three.{Three}
 use Rattle.kb_rules.specs.Places.{seat, is_kept}
 
--- which rows may become one: directories
+-- two directories may become one
 abbrev pub may_join : Row → Row → Bool
 may_join b a = is_dir_row b && is_dir_row a
 
 -- whether the row b, whose parent is or is joined to this one, may be joined to the row of a: it is kept, ours lacks it, and it has b's name in that directory
 abbrev pub takes : Three → Row → NodeId → NodeId → Bool
-takes t b parent a = is_kept t a && (not (is_some (t.ours a)) && option_map_or (λ (r : Row). may_join b r && (same_node r.parent parent && bytes_eq r.name b.name)) (t.merged a) false)
+takes t b parent a = is_kept t a && (not (is_some (t.ours a)) && option_map_or (λ (r : Row). t.may b r && (same_node r.parent parent && bytes_eq r.name b.name)) (t.merged a) false)
 
 -- what a kept row that merged lacks is joined to, where at most so many rows are above it
 abbrev pub joined_within : Three → ℕ → NodeId → Option NodeId

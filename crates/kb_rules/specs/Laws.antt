@@ -6,7 +6,8 @@ use Rattle.kb_ops.specs.declared.rows.Row.{Row}
 use Rattle.kb_ops.specs.Rows.{Look}
 use Rattle.kb_ops.specs.Trees.{Tree, look, IsWellFormed}
 use Rattle.kb_rules.specs.declared.stamp.Stamp.{Stamp}
-use Rattle.kb_rules.specs.Merge.{conflicted, splits, copied, merge}
+use Rattle.kb_rules.specs.Joins.{joined}
+use Rattle.kb_rules.specs.Merge.{conflicted, splits, copied, three, merge}
 
 -- a file that base lacks, or has with other bytes
 pub record IsNewFile (s : Row) (o : Option Row) : Type 0 where
@@ -33,9 +34,9 @@ pub record HasBytes (result : Look) (q : NodeId) (bytes : List ℕ) (IsItsName :
   pub bytes_are : row.bytes ≡ bytes
   pub named : IsItsName row.name
 
--- f itself, or its copy
+-- f itself, its copy, or by the second rule the file that f is joined to
 abbrev pub IsFileOf : Tree → Tree → Tree → Stamp → NodeId → NodeId → Type 0
-IsFileOf b m u stamp f q = (q ≡ f) ⊎ (copied stamp (splits b m u) q ≡ Some f)
+IsFileOf b m u stamp f q = ((q ≡ f) ⊎ (copied stamp (splits b m u) q ≡ Some f)) ⊎ ((stamp.rule ≡ 2) × (joined (three b m u stamp) f ≡ Some q))
 
 -- no bytes of ours are lost: each file that is new there, or has new bytes, is in the result with these, itself or as its copy
 abbrev pub KeepsOurs : Tree → Tree → Tree → Stamp → Type 0

@@ -8,7 +8,7 @@ use Rattle.kb_ops.specs.declared.rows.Row.{Row}
 use Rattle.kb_ops.specs.Rows.{meets}
 use Rattle.kb_rules.specs.Three.{Three, stays}
 use Rattle.kb_rules.specs.Places.{seat, is_kept}
-use Rattle.kb_rules.specs.Joins.{may_join, joined, into}
+use Rattle.kb_rules.specs.Joins.{joined, into}
 use Rattle.kb_rules.specs.Names.{Given, taken, free_name}
 
 -- the walk of parents from each place reaches the root
@@ -32,7 +32,7 @@ pub record AreOne (t : Three) (b a : NodeId) : Type 0 where
   pub host_new : t.ours a ≡ None
   pub host : Row
   pub host_found : t.merged a ≡ Some host
-  pub may : may_join row host ≡ true
+  pub may : t.may row host ≡ true
   pub parent : host.parent ≡ into t row.parent
   pub name : host.name ≡ row.name
 

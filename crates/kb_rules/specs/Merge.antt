@@ -1,5 +1,8 @@
 -- The merge of three trees.
-use Rattle.std.specs.Prelude.{ℕ, ◌+◌, ◌-◌, not, ◌&&◌, List, [], ◌∷◌, length, filter, nat_eq, slice_get, if◌then◌else◌, Option, None}
+use Rattle.std.specs.Prelude.{ℕ, ◌+◌, ◌-◌, not, Bool, ◌&&◌, ◌||◌, List, [], ◌∷◌, length, filter, nat_eq, slice_get, if◌then◌else◌, Option, None}
+use mathlib.Core.Bool.{beq}
+use Rattle.std.specs.Str.{bytes_eq}
+use Rattle.kb_ops.specs.Plan.{is_file_kind}
 use Rattle.std.specs.List.{list_any, count_by}
 use Rattle.std.specs.Option.{is_some, option_map, option_map_or}
 use Rattle.std.specs.FinMap.{empty, insert, keys}
@@ -13,7 +16,7 @@ use Rattle.kb_rules.specs.declared.stamp.Stamp.{Stamp}
 use Rattle.kb_rules.specs.declared.report.Report.{Report}
 use Rattle.kb_name.specs.Conflicted.{conflicted_text}
 use Rattle.kb_rules.specs.Three.{Three, is_split}
-use Rattle.kb_rules.specs.Joins.{joined}
+use Rattle.kb_rules.specs.Joins.{may_join, joined}
 use Rattle.kb_rules.specs.Names.{given, result}
 
 -- ---- copies
@@ -53,10 +56,19 @@ conflicted stamp name k = conflicted_text name stamp.name stamp.moment k
 abbrev pub split_among : Look → Look → Look → List NodeId → List NodeId
 split_among b m u ids = filter (is_split b m u) ids
 
+-- two new files with one content, of which b is no copy
+abbrev pub are_alike : Look → (NodeId → Bool) → Row → Row → Bool
+are_alike base is_copy b a =
+    is_file_kind b.kind && (is_file_kind a.kind && (not (is_some (base b.id)) && (not (is_some (base a.id)) && (not (is_copy b.id) && (bytes_eq b.bytes a.bytes && beq b.exec a.exec)))))
+
+-- which rows may become one: directories, and by the second rule such files
+abbrev pub may_by : ℕ → Look → (NodeId → Bool) → Row → Row → Bool
+may_by rule base is_copy b a = may_join b a || (nat_eq rule 2 && are_alike base is_copy b a)
+
 abbrev pub three_of : Stamp → Look → Look → Look → List NodeId → List NodeId → Three
 three_of stamp b m u merged_ids our_ids =
     let splits = split_among b m u merged_ids in
-    record { base = b; merged = m; ours = with_copies stamp splits u; ids = put_ids (copy_ids stamp 1 splits) (put_ids our_ids merged_ids); conflicted = conflicted stamp }
+    record { base = b; merged = m; ours = with_copies stamp splits u; ids = put_ids (copy_ids stamp 1 splits) (put_ids our_ids merged_ids); conflicted = conflicted stamp; may = may_by stamp.rule b (λ q. is_some (copied stamp splits q)) }
 
 -- the split files, in the order of their ids
 abbrev pub splits : Tree → Tree → Tree → List NodeId

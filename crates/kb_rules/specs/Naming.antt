@@ -8,6 +8,7 @@ use Rattle.kb_name.specs.Nodes.{same_node, node_cmp}
 use Rattle.kb_ops.specs.declared.rows.Row.{Row}
 use Rattle.kb_ops.specs.Rows.{Look}
 use Rattle.kb_rules.specs.declared.sides.Sides.{Sides}
+use Rattle.kb_rules.specs.Joins.{may_join}
 use Rattle.kb_rules.specs.Three.{Three, fields_by}
 use Rattle.kb_rules.specs.Merge.{with_copies, conflicted}
 use Rattle.kb_rules.specs.declared.names.Given.{Given}
@@ -16,7 +17,7 @@ use Rattle.kb_rules.specs.Code.{row_in, base_in, merged_in, ours_in, side_in, in
 
 -- the three trees of the lists, with the conflicted names
 abbrev pub named_three : Sides → Three
-named_three s = record { base = row_in s.base.now; merged = row_in s.merged.now; ours = with_copies s.stamp.now s.splits.now (row_in s.ours.now); ids = s.ids.now; conflicted = conflicted s.stamp.now }
+named_three s = record { base = row_in s.base.now; merged = row_in s.merged.now; ours = with_copies s.stamp.now s.splits.now (row_in s.ours.now); ids = s.ids.now; conflicted = conflicted s.stamp.now; may = may_join }
 
 -- the row of the id stands in the directory under the name
 unfoldable pub stands_in : Sides → NodeId → List ℕ → NodeId → Bool

@@ -3,8 +3,9 @@ use Rattle.std.specs.Prelude.{◌≡◌, ℕ, Bool, true, List, Some, IsSome}
 use Rattle.std.specs.List.{list_any}
 use Rattle.kb_name.specs.declared.ids.NodeId.{NodeId}
 use Rattle.kb_name.specs.Nodes.{same_node}
+use Rattle.kb_ops.specs.declared.values.Kind.TheVariants.{File}
 use Rattle.kb_ops.specs.declared.rows.Row.{Row}
-use Rattle.kb_ops.specs.Rows.{IsTree}
+use Rattle.kb_ops.specs.Rows.{IsTree, is_dir_row}
 use Rattle.kb_rules.specs.Three.{Three}
 
 abbrev pub is_in : NodeId → List NodeId → Bool
@@ -18,3 +19,5 @@ pub record CanMerge (n m : ℕ) (t : Three) : Type 0 where
   pub common : (q : NodeId) (r s : Row) → t.merged q ≡ Some r → t.ours q ≡ Some s → IsSome (t.base q)
   pub merged_in : (q : NodeId) (r : Row) → t.merged q ≡ Some r → is_in q t.ids ≡ true
   pub ours_in : (q : NodeId) (r : Row) → t.ours q ≡ Some r → is_in q t.ids ≡ true
+  pub joined_kinds : (b a : Row) → t.may b a ≡ true → is_dir_row b ≡ is_dir_row a
+  pub joined_files : (b a : Row) → t.may b a ≡ true → b.kind ≡ File → (a.kind ≡ File) × (a.bytes ≡ b.bytes)

@@ -10,13 +10,14 @@ use Rattle.kb_ops.specs.Codes.{kind_number}
 use Rattle.kb_ops.specs.Rows.{Look}
 use Rattle.kb_ops.specs.Plan.{is_file_kind}
 
--- the tree of the common revision, the merged one and ours, the ids of the rows of the last two in ascending order, and the conflicted names of a name, from 1 on
+-- the tree of the common revision, the merged one and ours, the ids of the rows of the last two in ascending order, the conflicted names of a name, from 1 on, and which rows may become one
 pub record Three : Type 0 where
   pub base : Look
   pub merged : Look
   pub ours : Look
   pub ids : List NodeId
   pub conflicted : List ℕ → ℕ → List ℕ
+  pub may : Row → Row → Bool
 
 -- ---- when two rows are alike
 

@@ -20,9 +20,16 @@ mod splits;
 mod stamp;
 mod walks;
 
-pub use laws::{merge_laws, rule_laws};
-pub use merging::merge_rows;
+pub use found::place;
+pub use laws::{device, few, merge_laws, moment, rule_laws};
+pub use merged::merged_row;
+pub use merging::{joins as joined_count, merge_rows};
+pub use names::{all_places, conflicted, merged_places};
+pub use places::{Place, Places, place_of};
 pub use report::{Merged, Report};
+pub use seats::{Seats, seats_of};
+pub use sides::Sides;
+pub use splits::{all_ids, copies_of, splits_of};
 pub use stamp::Stamp;
 
 #[cfg(test)]

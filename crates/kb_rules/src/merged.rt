@@ -113,7 +113,7 @@ fn name(names: &BTreeMap<NodeId, Name>, q: NodeId, own: &Name) -> Result<Name, A
 
 /// The row of an id in the merge.
 #[tactic(auto, unfolding(crate::specs::Naming::row_by))]
-fn merged_row(
+pub fn merged_row(
     seats: &Seats,
     names: &BTreeMap<NodeId, Name>,
     q: NodeId,

@@ -28,7 +28,7 @@ fn somes(joined: &[Option<NodeId>]) -> u64
 }
 
 /// How many rows are joined to another.
-fn joins(seats: &Seats) -> u64
+pub fn joins(seats: &Seats) -> u64
     requires { AreSeats seats.now }
     ensures { result ≡ joins (named_three seats.now.sides.now) }
 {
@@ -84,6 +84,7 @@ pub fn merge_rows(
     requires merged { rises merged.now ≡ true }
     requires ours { rises ours.now ≡ true }
     requires meet { Meet (tree_of base.now) (tree_of merged.now) (tree_of ours.now) stamp.now }
+    requires rule { stamp.now.rule ≡ 1 }
     requires few { length (splits (tree_of base.now) (tree_of merged.now) (tree_of ours.now)) ≤ 65535 }
     ensures merge { IfOk result (λ d. tree_of d.rows.items
         ≡ merge (tree_of base.now) (tree_of merged.now) (tree_of ours.now) stamp.now) }

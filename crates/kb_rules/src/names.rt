@@ -68,7 +68,7 @@ fn add_merged_place(
 }
 
 /// The places in which rows stand.
-fn all_places(alloc: Global, seats: &Seats) -> Result<Places, Memory>
+pub fn all_places(alloc: Global, seats: &Seats) -> Result<Places, Memory>
     requires { AreSeats seats.now }
     ensures { IfOk result (λ s. (p : NodeId) (n : List ℕ)
         → has_place s p n ≡ list_any (stands_in seats.now.sides.now p n) seats.now.sides.now.ids.now) }
@@ -82,7 +82,7 @@ fn all_places(alloc: Global, seats: &Seats) -> Result<Places, Memory>
 }
 
 /// The places in which rows of merged's side stand.
-fn merged_places(alloc: Global, seats: &Seats) -> Result<Places, Memory>
+pub fn merged_places(alloc: Global, seats: &Seats) -> Result<Places, Memory>
     requires { AreSeats seats.now }
     ensures { IfOk result (λ s. (p : NodeId) (n : List ℕ)
         → has_place s p n ≡ list_any (merged_stands_in seats.now.sides.now p n) seats.now.sides.now.ids.now) }
@@ -96,7 +96,7 @@ fn merged_places(alloc: Global, seats: &Seats) -> Result<Places, Memory>
 }
 
 #[tactic(auto, unfolding(crate::specs::Merge::conflicted))]
-fn conflicted(alloc: Global, stamp: &Stamp, name: &Name, k: u64) -> Result<Name, Memory>
+pub fn conflicted(alloc: Global, stamp: &Stamp, name: &Name, k: u64) -> Result<Name, Memory>
     requires { 1 ≤ k }
     ensures { IfOk result (λ n. n ≡ conflicted stamp.now name.now k) }
 {

@@ -77,6 +77,9 @@ fn merge(
     ours: &[Row],
     stamp: &Stamp,
 ) -> Option<Merged> {
+    if stamp.rule != 1 {
+        return None;
+    }
     if !can_merge(base, merged, ours, stamp) {
         return None;
     }
@@ -106,6 +109,7 @@ fn merges(
         name: DeviceName::new(alloc, b"phone").expect(rt, "a device"),
         last,
         moment: Moment::new(NOON).expect(rt, "a moment"),
+        rule: 1,
     };
     let base = tree(rt, alloc, base);
     let merged = tree(rt, alloc, merged);

@@ -1,4 +1,6 @@
 //! Whole runs over ends in memory.
+mod scripts;
+
 use crate::{Status, run_script, run_words};
 use kb_edge::{MemSink, MemSource};
 use kb_memdisk::Rack;

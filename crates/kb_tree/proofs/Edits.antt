@@ -74,7 +74,7 @@ module _ (rows : List Row) (by_id by_spot : List ℕ) (x : IsTable rows by_id by
   keys_rise = ap (entries.is_sorted node_cmp) (sym (keyed_slots rows by_id)) ∙ x.kept.rise
 
   -- a slot stands at the place of its row's id alone
-  only_id : (slot j : ℕ) → slice_get by_id j ≡ Some slot → j ≡ place_of (row_in rows slot).id sorted
+  pub only_id : (slot j : ℕ) → slice_get by_id j ≡ Some slot → j ≡ place_of (row_in rows slot).id sorted
   only_id slot j got = only_at node_cmp nodes_total exact_nodes key by_id keys_rise slot j got ∙ place_keyed rows by_id (row_in rows slot).id
 
   only_spot : (slot j : ℕ) → slice_get by_spot j ≡ Some slot → j ≡ spot_place rows by_spot slot

@@ -42,12 +42,20 @@ impl Model for Table {
 }
 
 impl Table {
+    ghost use Rattle.std.specs.Prelude.{◌^◌};
     ghost use Rattle.kb_ops.specs.Lists.{tree_of};
     ghost use Rattle.kb_tree.specs.Held.{AreKept};
 
     /// Each table holds a well formed tree.
     pub fn is_well_formed(&self)
         ensures { IsWellFormed self.now.tree }
+    {
+        let _ = &self.rows;
+    }
+
+    /// Each table has at most 4,294,967,296 rows.
+    pub fn is_bounded(&self)
+        ensures { map.len self.now.tree ≤ 2 ^ 32 }
     {
         let _ = &self.rows;
     }

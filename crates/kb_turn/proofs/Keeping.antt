@@ -12,10 +12,10 @@ use Rattle.std.specs.Prelude.{All, if◌then◌else◌, Option, Some}
 use Rattle.atomic_table.specs.Table.{State, Me, step, Act, keeps, takes, gives, Valid, carried_after, stepped, Allows, Splits, Joins, opening}
 use Rattle.atomic_table.proofs.Lists.{at_set, set_else, at_longer}
 use Rattle.kb_turn.specs.declared.view.View.{View}
-use Rattle.kb_turn.specs.Views.{numbers_of, Among, maker, spent, first_half, second_half, numbered, handing, longer, joining, taking, missing, seeing, leaving, loading, of}
+use Rattle.kb_turn.specs.Views.{numbers_of, Among, maker, spent, first_half, second_half, watching, numbered, handing, longer, joining, taking, missing, seeing, leaving, loading, of}
 use Rattle.kb_turn.specs.Rule.{AreNumbered, Phase, home, out, word_of, home_of, Kept, Fits, Turned, Rule}
 use Rattle.kb_turn.specs.Steps.{Follows, claimed, counted_up, released, counted}
-use Rattle.kb_turn.proofs.Lists.{at_one, set_there, at_snoc_place, prefix_self, prefix_snoc, prefix_trans, prefix_shorter, prefix_length, among_append, of_other, of_between, all_snoc, same_head}
+use Rattle.kb_turn.proofs.Lists.{at_one, set_there, at_snoc_place, prefix_self, prefix_snoc, prefix_trans, prefix_shorter, prefix_length, among_append, of_other, of_bare, of_between, all_snoc, same_head}
 
 no_zero : (k : ℕ) → 0 < k → Among k (0 ∷ []) → ⊥
 no_zero k p m = ⊎_elim (λ e. absurd (omega arith)) (λ n. n) m
@@ -175,7 +175,7 @@ module _ {T E : Type 0} (told : T → List E) (number_of : E → ℕ) (callers :
       let one_more : length list' ≡ length r.list + 1 = length-append r.list (e ∷ []) in
       let is_mine : Among (number_of e) (numbers_of me.0) = inl carries in
       let carried : 0 < number_of e = omega arith in
-      let marked : AreNumbered number_of callers list' = all_snoc (λ (y : E). (0 < number_of y) × (number_of y ≤ callers)) r.list e r.marked (carried, (let l = r.low id me.0 at in omega arith)) in
+      let marked : AreNumbered number_of callers list' = all_snoc (λ (y : E). number_of y ≤ callers) r.list e r.marked (let l = r.low id me.0 at in omega arith) in
       let fw : Fits number_of list' w = record {
         begins = subst (λ (l : List E). IsPrefix l list') (sym all) (prefix_self list');
         below = let b = f.below in omega arith;
@@ -359,16 +359,28 @@ module _ {T E : Type 0} (told : T → List E) (number_of : E → ℕ) (callers :
             );
       }
 
-  pub opens : (n : ℕ) (x : T) → told x ≡ [] → Holds (opening (0 ∷ 0 ∷ []) (Some x ∷ []) (maker n))
-  opens n x empty = record {
-    list = [];
+  pub opens : (n : ℕ) (x : T) → All (λ e. number_of e ≡ 0) (told x) → Holds (opening (length (told x) ∷ 0 ∷ []) (Some x ∷ []) (maker (told x) n))
+  opens n x bare = let first : View E = maker (told x) n in record {
+    list = told x;
     phase = home x;
     words = refl;
     homes = refl;
-    turn = (empty, λ j u e. ap (λ (z : View E). z.holds) (sym (at_one (maker n) j u e).1));
-    marked = λ k d h. absurd (omega arith);
-    low = λ j u e. subst (λ (z : View E). z.number ≤ callers) (at_one (maker n) j u e).1 (omega arith);
-    fits = λ j u e. subst (Fits number_of []) (at_one (maker n) j u e).1 record { begins = prefix_self []; below = omega arith; mine = λ k p m. absurd (no_zero k p m); lists = no_lists (maker n) [] refl; later = λ p k le. refl };
-    apart = λ i j a b ea eb k p ka kb. (at_one (maker n) i a ea).0 ∙ sym (at_one (maker n) j b eb).0;
-    hands = λ i j a b ea eb pos. ((λ k p kb. absurd (no_zero k p (subst (λ (z : View E). Among k (numbers_of z)) (sym (at_one (maker n) j b eb).1) kb))), λ p. (at_one (maker n) i a ea).0 ∙ sym (at_one (maker n) j b eb).0);
+    turn = (refl, λ j u e. ap (λ (z : View E). z.holds) (sym (at_one first j u e).1));
+    marked = λ k d h. let zero_at = bare k d h in omega arith;
+    low = λ j u e. subst (λ (z : View E). z.number ≤ callers) (at_one first j u e).1 (omega arith);
+    fits = λ j u e. subst (Fits number_of (told x)) (at_one first j u e).1 record { begins = prefix_self (told x); below = omega arith; mine = λ k p m. refl; lists = no_lists first [] refl; later = λ p k le. of_bare number_of k (told x) (omega arith) bare };
+    apart = λ i j a b ea eb k p ka kb. (at_one first i a ea).0 ∙ sym (at_one first j b eb).0;
+    hands = λ i j a b ea eb pos. ((λ k p kb. absurd (no_zero k p (subst (λ (z : View E). Among k (numbers_of z)) (sym (at_one first j b eb).1) kb))), λ p. (at_one first i a ea).0 ∙ sym (at_one first j b eb).0);
   }
+
+  -- a view that has seen the same, with no number and no share
+  watches_at : (id : ℕ) (v : View E) (s : St) (r : Holds s) → get_elem? s.views id ≡ some v
+      → Holds record { words = length r.list ∷ word_of r.phase ∷ []; homes = home_of r.phase ∷ []; views = set s.views id v ++ watching v ∷ [] }
+  watches_at id v s r at = let f = r.fits id v at in
+      let c = changed s r id v v at refl (le_refl v.next) (λ p. p) r.list r.marked r.phase (stays_turned r.list s.views id v v at refl refl r.phase r.turn) f (λ j u ne e. r.fits j u e) in
+      added record { words = length r.list ∷ word_of r.phase ∷ []; homes = home_of r.phase ∷ []; views = set s.views id v } c (watching v)
+      record { begins = f.begins; below = f.below; mine = λ k p m. absurd (no_zero k p m); lists = no_lists (watching v) [] refl; later = λ p. absurd (omega arith) } (omega arith) refl refl
+      (λ j u e k p m n. no_zero k p m) (λ j u e p k q m. absurd (no_zero k q m))
+
+  pub watches : (id : ℕ) (v : View E) → Splits Holds id v v (watching v)
+  watches id v s r at = placed s r (set s.views id v ++ watching v ∷ []) (watches_at id v s r at)

@@ -71,6 +71,11 @@ module _ {E : Type 0} (number_of : E → ℕ) where
   pub of_other : (k : ℕ) (xs : List E) (e : E) → number_of e ≢ k → of number_of k (xs ++ e ∷ []) ≡ of number_of k xs
   of_other k xs e ne = filter-append (λ x. number_of x == k) xs (e ∷ []) ∙ (let b : (number_of e == k) ≡ false = grind (arith, nat_tests) in rw b (append-nil (of number_of k xs)))
 
+  -- where no entry carries a number, none carries this one
+  pub of_bare : (k : ℕ) (xs : List E) → 0 < k → All (λ e. number_of e ≡ 0) xs → of number_of k xs ≡ []
+  of_bare k [] pos h = refl
+  of_bare k (x ∷ xs) pos h = let zero_at = h 0 x (omega arith) in let b : (number_of x == k) ≡ false = grind (arith, nat_tests) in rw b (of_bare k xs pos (λ i d lt. h (suc i) d (omega arith)))
+
   nothing_more : (us bs cs : List E) → length (us ++ bs) ≤ length us → us ++ bs ≡ us
   nothing_more us [] cs le = append-nil us
   nothing_more us (b ∷ bs) cs le = absurd (omega (arith, length-append us (b ∷ bs)))

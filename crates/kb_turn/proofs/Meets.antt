@@ -91,5 +91,5 @@ module _ {T E : Type 0} {g : Ghosts T E} where
   total_ones (p ∷ ps) h = let a = h 0 p (omega arith) in let one : weight 0 (view p) ≡ 1 = (λ i. a.0 i * 2 ^ (0 - a.1 i)) in let b = total_ones ps (λ k d lt. h (suc k) d (omega arith)) in omega arith
 
   -- the passes of a new turn have all shares
-  pub dealt_are_all : (t : Turn T E) (ps : List (Pass T E g)) → length ps ≡ callers_of t → AreDealt t ps → AreAll t ps
-  dealt_are_all t ps count h = (0, (λ k d lt. let e : (view (get_or ps k d)).halvings ≡ 0 = ap (λ (v : View E). v.halvings) (h k d lt).1 in omega arith), total_ones ps (λ k d lt. (ap (λ (v : View E). v.parts) (h k d lt).1, ap (λ (v : View E). v.halvings) (h k d lt).1)) ∙ (let n : ℕ = length ps in let m : ℕ = callers_of t in let same : n ≡ m = count in omega arith))
+  pub dealt_are_all : (t : Turn T E) (xs : List E) (ps : List (Pass T E g)) → length ps ≡ callers_of t → AreDealt t xs ps → AreAll t ps
+  dealt_are_all t xs ps count h = (0, (λ k d lt. let e : (view (get_or ps k d)).halvings ≡ 0 = ap (λ (v : View E). v.halvings) (h k d lt).1 in omega arith), total_ones ps (λ k d lt. (ap (λ (v : View E). v.parts) (h k d lt).1, ap (λ (v : View E). v.halvings) (h k d lt).1)) ∙ (let n : ℕ = length ps in let m : ℕ = callers_of t in let same : n ≡ m = count in omega arith))

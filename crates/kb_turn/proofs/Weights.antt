@@ -73,6 +73,12 @@ module _ {E : Type 0} where
       let sum' : total e vs ≡ n * q = sum in let z : ℕ = n * q in
       (e + 1, all_snoc (λ z. z.halvings ≤ e + 1) (set vs id l) r (all_set (e + 1) vs id l (all_up e vs h.1) (omega arith)) (omega arith), (let t : total (e + 1) (set vs id l ++ r ∷ []) ≡ 2 * z = omega arith in t ∙ sym whole))
 
+  -- one view more, with no share
+  pub weighed_more : (n : ℕ) (vs : List (View E)) (r : View E) → r.parts ≡ 0 → r.halvings ≡ 0 → Weighed n vs → Weighed n (vs ++ r ∷ [])
+  weighed_more n vs r rp rh h = let e = h.0 in let none' : weight e r ≡ 0 * 2 ^ (e - 0) = same_weight e r 0 0 rp rh in let q : ℕ = 2 ^ (e - 0) in let none'' : weight e r ≡ 0 = none' ∙ (let z : 0 * q ≡ 0 = omega arith in z) in
+      let b = total_snoc e vs r in let sum = h.2 in
+      (e, all_snoc (λ z. z.halvings ≤ e) vs r h.1 (omega arith), (let t : total e (vs ++ r ∷ []) ≡ total e vs = omega arith in t ∙ sum))
+
   whole_weight : (e : ℕ) (v : View E) (p : ℕ) → v.parts ≡ p → v.halvings ≡ 0 → weight e v ≡ p * 2 ^ e
   whole_weight e v p parts halvings = same_weight e v p 0 parts halvings ∙ (let z : e - 0 ≡ e = omega arith in ap (λ (k : ℕ). p * 2 ^ k) z)
 

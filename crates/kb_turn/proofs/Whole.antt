@@ -8,12 +8,12 @@ use Rattle.std.specs.Prelude.{All, Option, Some}
 use Rattle.atomic_table.specs.Table.{State, Me, step, Allows, Splits, Joins, opening}
 use Rattle.atomic_table.proofs.Lists.{at_set}
 use Rattle.kb_turn.specs.declared.view.View.{View}
-use Rattle.kb_turn.specs.Views.{maker, spent, first_half, second_half, numbered, handing, joining}
+use Rattle.kb_turn.specs.Views.{maker, spent, first_half, second_half, watching, numbered, handing, joining}
 use Rattle.kb_turn.specs.Rule.{Rule, Whole}
 use Rattle.kb_turn.specs.Steps.{claimed, counted_up, released, counted}
 use Rattle.kb_turn.proofs.Lists.{at_snoc_place, at_one}
 use Rattle.kb_turn.proofs.Keeping as steps
-use Rattle.kb_turn.proofs.Weights.{weighed_set, weighed_split, weighed_hand, weighed_join}
+use Rattle.kb_turn.proofs.Weights.{weighed_set, weighed_split, weighed_more, weighed_hand, weighed_join}
 
 module _ {T E : Type 0} (told : T → List E) (number_of : E → ℕ) (callers : ℕ) where
   abbrev Seat : Type 0
@@ -86,9 +86,17 @@ module _ {T E : Type 0} (told : T → List E) (number_of : E → ℕ) (callers :
         (λ t. ⊎_elim (λ z. let no : u.holds ≡ false = ap (λ (x : View E). x.holds) (sym z.1) in absurd cc) (λ z. h.alive j u z.1 y) (at_set s.views id j (joining v w) u t.1)) (at_set (set s.views id (joining v w)) other j spent u e);
   }
 
-  pub opens : (x : T) → told x ≡ [] → Holds (opening (0 ∷ 0 ∷ []) (Some x ∷ []) (maker callers))
-  opens x empty = record {
-    rule = steps.opens told number_of callers callers x empty;
-    shares = (0, one_view (maker callers) (omega arith), omega arith);
-    alive = λ j u e y. let no : u.holds ≡ false = ap (λ (z : View E). z.holds) (sym (at_one (maker callers) j u e).1) in absurd cc;
+  pub watches : (id : ℕ) (v : View E) → Splits Holds id v v (watching v)
+  watches id v s h at = record {
+    rule = steps.watches told number_of callers id v s h.rule at;
+    shares = weighed_more callers (set s.views id v) (watching v) refl refl (weighed_set callers s.views id v v at refl refl h.shares);
+    alive = λ j u e y. ⊎_elim (λ t. ⊎_elim (λ z. subst (λ (x : View E). 0 < x.parts) z.1 (h.alive id v at (ap (λ (x : View E). x.holds) z.1 ∙ y))) (λ z. h.alive j u z.1 y) (at_set s.views id j v u t))
+        (λ t. let no : u.holds ≡ false = ap (λ (x : View E). x.holds) (sym t.1) in absurd cc) (at_snoc_place (set s.views id v) (watching v) u j e);
+  }
+
+  pub opens : (x : T) → All (λ e. number_of e ≡ 0) (told x) → Holds (opening (length (told x) ∷ 0 ∷ []) (Some x ∷ []) (maker (told x) callers))
+  opens x bare = let first : View E = maker (told x) callers in record {
+    rule = steps.opens told number_of callers callers x bare;
+    shares = (0, one_view first (omega arith), omega arith);
+    alive = λ j u e y. let no : u.holds ≡ false = ap (λ (z : View E). z.holds) (sym (at_one first j u e).1) in absurd cc;
   }

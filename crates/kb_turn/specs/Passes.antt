@@ -22,11 +22,11 @@ no_turn = record { words = 0; slots = 0; views_name = 0; atom = 0; block = 0; of
 
 -- how many numbers were given out as the turn was made
 abbrev pub callers_of : {T E : Type 0} → Turn T E → ℕ
-callers_of t = t.table.shared.key
+callers_of t = t.table.shared.key.0
 
--- the seat hands out the number n next, has p shares, and has seen no entry
-abbrev pub IsNext : {T E : Type 0} → Turn T E → ℕ → ℕ → Seat (Option T) (View E) → Type 0
-IsNext t n p s = (s.table_id ≡ name_of t) × (s.me.0.next ≡ n) × (s.me.0.seen ≡ []) × (s.me.0.parts ≡ p) × (s.me.0.halvings ≡ 0) × (s.me.0.holds ≡ false)
+-- the seat hands out the number n next, has p shares, and has seen these entries
+abbrev pub IsNext : {T E : Type 0} → Turn T E → List E → ℕ → ℕ → Seat (Option T) (View E) → Type 0
+IsNext t xs n p s = (s.table_id ≡ name_of t) × (s.me.0.next ≡ n) × (s.me.0.seen ≡ xs) × (s.me.0.parts ≡ p) × (s.me.0.halvings ≡ 0) × (s.me.0.holds ≡ false)
 
 module _ {T E : Type 0} {g : Ghosts T E} where
   -- what the pass knows
@@ -49,6 +49,13 @@ module _ {T E : Type 0} {g : Ghosts T E} where
   abbrev pub IsIdleAt : TableId → Pass T E g → Type 0
   IsIdleAt z p = (p.seat.table_id ≡ z) × (p.seat.me.1 ≡ []) × ((view p).holds ≡ false) × ((view p).kept ≡ []) × (0 < (view p).parts)
 
+  -- the same, where it need not have a share: without one it can't take the turn
+  abbrev pub IsWatchAt : TableId → Pass T E g → Type 0
+  IsWatchAt z p = (p.seat.table_id ≡ z) × (p.seat.me.1 ≡ []) × ((view p).holds ≡ false) × ((view p).kept ≡ [])
+
+  abbrev pub IsWatchOf : Turn T E → Pass T E g → Type 0
+  IsWatchOf t p = IsWatchAt (name_of t) p
+
   -- it is a pass of this turn, and has not the turn
   abbrev pub IsPassOf : Turn T E → Pass T E g → Type 0
   IsPassOf t p = IsIdleAt (name_of t) p
@@ -69,9 +76,9 @@ module _ {T E : Type 0} {g : Ghosts T E} where
   abbrev pub FoundOut : Pass T E g → Pass T E g → Type 0
   FoundOut p q = IsSamePass p q × (q.seat.me.1 ≡ p.seat.me.1) × (seen q ≡ seen p) × ((view q).holds ≡ (view p).holds) × ((view q).kept ≡ (view p).kept) × (most_counted q ≡ most_counted p) × ((view q).missed ≡ (view p).missed + 1)
 
-  -- the passes of a new turn, in the order of their numbers
-  abbrev pub AreDealt : Turn T E → List (Pass T E g) → Type 0
-  AreDealt t ps = (j : ℕ) (d : Pass T E g) → j < length ps → IsPassOf t (slice_index_or ps j d) × (view (slice_index_or ps j d) ≡ newcomer (j + 1))
+  -- the passes of a new turn that began with the entries xs, in the order of their numbers
+  abbrev pub AreDealt : Turn T E → List E → List (Pass T E g) → Type 0
+  AreDealt t xs ps = (j : ℕ) (d : Pass T E g) → j < length ps → IsPassOf t (slice_index_or ps j d) × (view (slice_index_or ps j d) ≡ newcomer xs (j + 1))
 
   abbrev pub total_of : ℕ → List (Pass T E g) → ℕ
   total_of e [] = 0

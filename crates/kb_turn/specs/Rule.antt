@@ -35,9 +35,9 @@ module _ {E : Type 0} (number_of : E → ℕ) where
     pub lists : All (Kept v) v.kept
     pub later : 0 < v.next → (k : ℕ) → v.next ≤ k → of number_of k list ≡ []
 
-  -- each entry carries a number from 1 to that of the callers
+  -- no entry carries a number above that of the callers. The entries that the turn began with carry the number 0
   abbrev pub AreNumbered : ℕ → List E → Type 0
-  AreNumbered callers list = All (λ e. (0 < number_of e) × (number_of e ≤ callers)) list
+  AreNumbered callers list = All (λ e. number_of e ≤ callers) list
 
 module _ {T E : Type 0} (told : T → List E) (number_of : E → ℕ) where
   -- Nobody has the turn, and the value stands for the list; or one seat alone has it, and has seen the list

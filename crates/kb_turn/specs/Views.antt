@@ -29,13 +29,17 @@ module _ {E : Type 0} where
   abbrev pub Weighed : ℕ → List (View E) → Type 0
   Weighed n vs = (e : ℕ) × All (λ v. v.halvings ≤ e) vs × (total e vs ≡ n * 2 ^ e)
 
-  -- the first view, which hands out the numbers and has all n shares
-  abbrev pub maker : ℕ → View E
-  maker n = record { seen = []; holds = false; number = 0; gone = []; next = 1; loaded = 0; kept = []; missed = 0; parts = n; halvings = 0 }
+  -- the first view, which hands out the numbers, has all n shares and has seen these entries
+  abbrev pub maker : List E → ℕ → View E
+  maker xs n = record { seen = xs; holds = false; number = 0; gone = []; next = 1; loaded = 0; kept = []; missed = 0; parts = n; halvings = 0 }
 
-  -- a pass with the number n, which has seen no entry
-  abbrev pub newcomer : ℕ → View E
-  newcomer n = record { seen = []; holds = false; number = n; gone = []; next = 0; loaded = 0; kept = []; missed = 0; parts = 1; halvings = 0 }
+  -- a pass with the number n, which has seen the entries that the turn began with
+  abbrev pub newcomer : List E → ℕ → View E
+  newcomer xs n = record { seen = xs; holds = false; number = n; gone = []; next = 0; loaded = 0; kept = []; missed = 0; parts = 1; halvings = 0 }
+
+  -- a view that has seen the same, with no number and no share
+  abbrev pub watching : View E → View E
+  watching v = record { seen = v.seen; holds = false; number = 0; gone = []; next = 0; loaded = v.loaded; kept = []; missed = 0; parts = 0; halvings = 0 }
 
   -- what is left of a view that was joined to another
   abbrev pub spent : View E

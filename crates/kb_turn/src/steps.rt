@@ -1,6 +1,6 @@
 //! What each step tells, and how views are split and joined. These types are for the proofs alone.
 ghost use Rattle.kb_turn.specs.Steps.{claimed, counted_up, released, counted};
-ghost use Rattle.kb_turn.specs.Views.{first_half, second_half, spent, handing, numbered, joining};
+ghost use Rattle.kb_turn.specs.Views.{first_half, second_half, watching, spent, handing, numbered, joining};
 
 use crate::told::Told;
 use crate::view::View;
@@ -37,6 +37,15 @@ impl<E> Split<View<E>> for Halve {
     ghost left = { first_half };
 
     ghost right = { second_half };
+}
+
+// A view that has seen the same, with no number and no share.
+pub(crate) struct Watch;
+
+impl<E> Split<View<E>> for Watch {
+    ghost left = { λ v. v };
+
+    ghost right = { watching };
 }
 
 // A view with the next number.

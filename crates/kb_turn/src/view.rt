@@ -2,6 +2,7 @@
 use crate::told::Told;
 use atomic_table::TableRule;
 use std::collections::LinkedList;
+use std::snapshot::Snapshot;
 
 /// What a pass knows. No value of it is made.
 pub struct View<E> {
@@ -29,11 +30,11 @@ pub struct View<E> {
 /// The rule of a turn. No value of it is made.
 pub struct Law;
 
-impl<T: Told> TableRule<Option<T>, View<T::Entry>, u32> for Law {
+impl<T: Told> TableRule<Option<T>, View<T::Entry>, (u32, Snapshot<T>)> for Law {
     ghost use Rattle.kb_turn.specs.Rule.{Whole};
     ghost use Rattle.kb_turn.specs.Views.{maker};
 
-    ghost holds = { λ n. Whole T.told T.number_of n };
+    ghost holds = { λ k. Whole T.told T.number_of k.0 };
 
-    ghost first = { maker };
+    ghost first = { λ k. maker (T.told k.1.value) k.0 };
 }

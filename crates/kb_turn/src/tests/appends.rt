@@ -91,7 +91,7 @@ pub fn two_append<R: Threads + Wait + Sync>(
 }
 
 // Ends the turn, and hands in both passes.
-fn close_both(
+pub fn close_both(
     turn: Turn<Log>,
     first: Pass<Log>,
     second: Pass<Log>,

@@ -1,8 +1,10 @@
-use Rattle.std.proofs.Common.{◌≡◌, ◌+◌, ◌-◌, ◌*◌, ◌<◌, ◌≤◌, min, [], ◌∷◌, ◌++◌, length, take, drop, ap, sym, subst, ◌∙◌, arith, append_assoc, append-nil, length-append, length-drop}
+use Rattle.std.proofs.Common.{◌≡◌, ◌+◌, ◌-◌, ◌*◌, ◌<◌, ◌≤◌, min, [], ◌∷◌, ◌++◌, length, take, drop, ap, sym, subst, ◌∙◌, arith, append_assoc, append-nil, length-append, length-drop, length-take}
 use Rattle.std.proofs.lemmas.List.{nil_from_length}
 use Rattle.std.specs.List.{AllByRecursion}
 use Rattle.kb_files.specs.Opens.{Opens}
 use Rattle.kb_files.specs.Files.{InOrder, HoldsAt, IsFit, span, index_text}
+use Rattle.kb_files.specs.Counts.{touched}
+use Rattle.kb_files.proofs.Spreads.{made_more, made_index}
 use Rattle.kb_files.proofs.Orders.{all_push, in_order_front, holds_index, span-above, few_more, count_more, some_before}
 use Rattle.kb_files.proofs.splitting.+split_at.Goals as goal
 
@@ -31,6 +33,13 @@ parts-preserved g t c =
           let left = ap length rest ∙ length-drop (min c.span-size.result (length c.parts.rest.now)) c.parts.rest.now in
           ap (λ n. n * c.span-size.result + length c.split_at.result.1.now) longer ∙ ap (λ n. (length c.parts.ptrs.items + 1) * c.span-size.result + n) left
           ∙ count_more (length c.parts.ptrs.items) c.span-size.result (length c.parts.rest.now) (length c.args.bytes.now) (c.parts.invariant.count some) (subst (λ n. 0 < n) left more);
+      made =
+          let below : c.args.level - 1 ≤ 1 = omega arith in
+          let size = c.span-size.ensures in
+          let cut : length c.split_at.result.0.now ≡ min (span (c.args.level - 1)) (length c.parts.rest.now) = ap length part ∙ length-take (min c.span-size.result (length c.parts.rest.now)) c.parts.rest.now ∙ omega arith in
+          let left : length c.split_at.result.1.now ≡ length c.parts.rest.now - min (span (c.args.level - 1)) (length c.parts.rest.now) = ap length rest ∙ length-drop (min c.span-size.result (length c.parts.rest.now)) c.parts.rest.now ∙ ap (λ n. length c.parts.rest.now - min n (length c.parts.rest.now)) size in
+          ap (λ n. length c.split_at-in-parts.new.made.items + touched (c.args.level - 1) 0 n) left
+          ∙ made_more (c.args.level - 1) (length c.parts.made.items) (length c.split_at-in-parts.new.made.items) (length c.args.made.now.items) (length c.split_at.result.0.now) (length c.parts.rest.now) (touched (c.args.level - 1) 0 (length c.args.bytes.now)) below some cut c.in_ok-ptr.ensures.count c.parts.invariant.made;
     }
 
 pub returns-clause-holds : goal.returns-clause-holds
@@ -50,3 +59,9 @@ returns-clause-holds g t c store keys k stored =
 
 pub returns-clause-kept : goal.returns-clause-kept
 returns-clause-kept g t c store stored = c.parts.invariant.kept store (c.in_ok-add_block.ensures.kept store stored)
+
+pub returns-clause-count : goal.returns-clause-count
+returns-clause-count g t c =
+    let empty : c.parts.rest.now ≡ [] = nil_from_length c.parts.rest.now (grind arith) in
+    made_index c.args.level (c.args.level - 1) (length c.parts.made.items) (length c.add_block-2.new.made.items) (length c.args.made.now.items) (length c.parts.rest.now) (length c.args.bytes.now)
+    (omega arith) c.requires.level (c.requires.some (omega arith)) c.requires.size (ap length empty) c.parts.invariant.made c.in_ok-add_block.ensures.one

@@ -1,3 +1,4 @@
+use Rattle.kb_files.specs.Counts.{touched}
 use Rattle.std.proofs.Common.{◌≡◌, ◌++◌, ◌*◌, ◌+◌, ◌<◌, ◌≤◌, List, length}
 use Rattle.std.specs.List.{AllByRecursion}
 use Rattle.kb_files.specs.Files.{InOrder, HoldsAt, IsFit}
@@ -16,6 +17,7 @@ invariant-parts g l = record {
   few : length l.ptrs.items ≤ 64;
   begun : length l.ptrs.items ≡ 0 → length l.rest ≡ length l.bytes;
   count : 0 < length l.rest → length l.ptrs.items * l.size + length l.rest ≡ length l.bytes;
+  made : length l.made.items + touched l.below 0 (length l.rest) ≡ length l.fn.made.items + touched l.below 0 (length l.bytes);
 }
 
 abbrev pub decreases-parts : goal.decreases-parts

@@ -41,7 +41,7 @@ merge_sides-requires-clause-sides c =
     let to_ids = c.deref-2.ensures.value ∙ sym c.deref-3.ensures.value in
     let copies = c.deref-4.ensures.value ∙ (c.in_ok-copies.ensures ∙ ap (λ xs. copies_of c.args.stamp.now 1 xs (row_in c.args.ours.now)) to_copies) in
     let ids = c.deref-5.ensures.value ∙ (c.in_ok-ids.ensures ∙ ap (λ xs. put_ids (copy_ids c.args.stamp.now 1 xs) (put_ids (ids_of c.args.ours.now) (ids_of c.args.merged.now))) to_ids) in
-    sides_are s r.base r.merged r.ours split copies ids r.meet
+    sides_are s r.base r.merged r.ours split copies ids r.meet r.rule
 
 pub returns-clause-merge : goal.returns-clause-merge
 returns-clause-merge c =
@@ -52,7 +52,7 @@ returns-clause-merge c =
     let to_ids = c.deref-2.ensures.value ∙ sym c.deref-3.ensures.value in
     let copies = c.deref-4.ensures.value ∙ (c.in_ok-copies.ensures ∙ ap (λ xs. copies_of c.args.stamp.now 1 xs (row_in c.args.ours.now)) to_copies) in
     let ids = c.deref-5.ensures.value ∙ (c.in_ok-ids.ensures ∙ ap (λ xs. put_ids (copy_ids c.args.stamp.now 1 xs) (put_ids (ids_of c.args.ours.now) (ids_of c.args.merged.now))) to_ids) in
-    IfOk-weaker c.merge_sides.result _ _ (λ d e. merge_is s r.base r.merged r.ours split copies ids r.meet c.device.ensures c.moment.ensures c.few.ensures c.few-2.ensures d.rows.items e) c.merge_sides.ensures.rows
+    IfOk-weaker c.merge_sides.result _ _ (λ d e. merge_is s r.base r.merged r.ours split copies ids r.meet r.rule c.device.ensures c.moment.ensures c.few.ensures c.few-2.ensures d.rows.items e) c.merge_sides.ensures.rows
 
 pub returns-clause-ascending : goal.returns-clause-ascending
 returns-clause-ascending c =
@@ -63,7 +63,7 @@ returns-clause-ascending c =
     let to_ids = c.deref-2.ensures.value ∙ sym c.deref-3.ensures.value in
     let copies = c.deref-4.ensures.value ∙ (c.in_ok-copies.ensures ∙ ap (λ xs. copies_of c.args.stamp.now 1 xs (row_in c.args.ours.now)) to_copies) in
     let ids = c.deref-5.ensures.value ∙ (c.in_ok-ids.ensures ∙ ap (λ xs. put_ids (copy_ids c.args.stamp.now 1 xs) (put_ids (ids_of c.args.ours.now) (ids_of c.args.merged.now))) to_ids) in
-    IfOk-weaker c.merge_sides.result _ _ (λ d e. rows_ascend s r.base r.merged r.ours split copies ids r.meet c.device.ensures c.moment.ensures c.few.ensures c.few-2.ensures d.rows.items e) c.merge_sides.ensures.rows
+    IfOk-weaker c.merge_sides.result _ _ (λ d e. rows_ascend s r.base r.merged r.ours split copies ids r.meet r.rule c.device.ensures c.moment.ensures c.few.ensures c.few-2.ensures d.rows.items e) c.merge_sides.ensures.rows
 
 pub returns-clause-report : goal.returns-clause-report
 returns-clause-report c =
@@ -74,5 +74,5 @@ returns-clause-report c =
     let to_ids = c.deref-2.ensures.value ∙ sym c.deref-3.ensures.value in
     let copies = c.deref-4.ensures.value ∙ (c.in_ok-copies.ensures ∙ ap (λ xs. copies_of c.args.stamp.now 1 xs (row_in c.args.ours.now)) to_copies) in
     let ids = c.deref-5.ensures.value ∙ (c.in_ok-ids.ensures ∙ ap (λ xs. put_ids (copy_ids c.args.stamp.now 1 xs) (put_ids (ids_of c.args.ours.now) (ids_of c.args.merged.now))) to_ids) in
-    with_three c.merge_sides.result _ _ _ _ (λ d copied renamed joined. report_is s r.base r.merged r.ours split copies ids r.meet d.report copied renamed joined)
+    with_three c.merge_sides.result _ _ _ _ (λ d copied renamed joined. report_is s r.base r.merged r.ours split copies ids r.meet r.rule d.report copied renamed joined)
     c.merge_sides.ensures.copies c.merge_sides.ensures.renamed c.merge_sides.ensures.joined

@@ -47,6 +47,6 @@ returns-in-None-clause-none g c =
     (λ gone all.
     let e = all.0 in
     let none = ap (total_of e) empty in
-    let some_left : 0 < c.args.self.table.shared.key * 2 ^ e = mul-pos c.args.self.some (pow_pos e) in
+    let some_left : 0 < c.args.self.table.shared.key.0 * 2 ^ e = mul-pos c.args.self.some (pow_pos e) in
     let sum = all.2 in
     omega (arith, none, sum))

@@ -14,8 +14,8 @@ returns-else-is_out-clause-some g c = let told = g.T.Told.told in let number_of 
 
 pub returns-else-is_out-clause-numbered : goal.returns-else-is_out-clause-numbered
 returns-else-is_out-clause-numbered g c = let told = g.T.Told.told in let number_of = g.T.Told.number_of in
-    let end = closes told number_of c.args.self.table.shared.key _ _ _ _ c.close_with-closed.ensures.values.2 c.word-is_out.result c.take-slot.result c.word-is_out.ensures c.take-slot.ensures.value c.if-is_out.false in
-    subst (λ o. IfSome o (λ x. AreNumbered number_of c.args.self.table.shared.key (told x))) (sym end.1) end.3
+    let end = closes told number_of c.args.self.table.shared.key.0 _ _ _ _ c.close_with-closed.ensures.values.2 c.word-is_out.result c.take-slot.result c.word-is_out.ensures c.take-slot.ensures.value c.if-is_out.false in
+    subst (λ o. IfSome o (λ x. AreNumbered number_of c.args.self.table.shared.key.0 (told x))) (sym end.1) end.3
 
 pub returns-else-is_out-clause-none : goal.returns-else-is_out-clause-none
 returns-else-is_out-clause-none g c = let told = g.T.Told.told in let number_of = g.T.Told.number_of in

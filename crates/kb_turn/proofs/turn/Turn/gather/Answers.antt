@@ -16,7 +16,7 @@ loop-other-preserved g c =
     let of : Pass g.row.T.Denot g.row.T-Entry.Denot g.T.Told → Type 0 = IsPassOf c.args.self.now in
     let ahead : Pass g.row.T.Denot g.row.T-Entry.Denot g.T.Told → Type 0 = λ p. Leads n (view p) (view c.meet.new.pass) in
     record {
-      pass = c.meet.ensures.pass.0;
+      pass = c.meet.ensures.pass inv.pass.4;
       rest = all_left of c.pop.new.self.items (other ∷ []) (subst (All of) items inv.rest);
       first = leads_trans n (view c.args.pass) (view c.loop-other.pass) (view c.meet.new.pass) inv.first c.meet.ensures.first;
       done = (
