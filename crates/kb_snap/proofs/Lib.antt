@@ -16,3 +16,14 @@ pub mod Agreeing
 pub mod Turns
 pub mod TestFits
 pub mod Found
+pub mod Sets
+pub mod Lists
+pub mod Chains
+pub mod Counts
+pub mod Ids
+pub mod Lawful
+pub mod MadeIds
+pub mod RowCounts
+pub mod ChainLaws
+pub mod Roles
+pub mod Examples

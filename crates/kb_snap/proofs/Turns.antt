@@ -174,8 +174,8 @@ module _ (sealed : List ℕ → List ℕ → List ℕ) (hashed : List ℕ → Li
 
         by : (k : Kind) → w.entry.kind ≡ k → RefusedKind vault blocks w k fault → Refuses blocks (HoldsTree vault top m) fault
         by Dir e r = refuses_weaker blocks (HoldsDir vault w.entry.ptr) (HoldsTree vault top m) (λ h x. is_dir_there vault one top m h t at ws rest w popped so.reading x.formed (so.agrees h x) e) fault r.0
-        by File e r = file (ap is_dir_kind e) r
-        by Link e r = file (ap is_dir_kind e) r
+        by File e r = file (ap is_dir_kind e) r.0
+        by Link e r = file (ap is_dir_kind e) r.0
 
     stored_rest : AllByRecursion (λ (v : Waiting). is_some (blocks v.block) ≡ true) rest
     stored_rest = all_front (λ (v : Waiting). is_some (blocks v.block) ≡ true) rest (w ∷ []) (subst (AllByRecursion (λ (v : Waiting). is_some (blocks v.block) ≡ true)) popped so.stored)

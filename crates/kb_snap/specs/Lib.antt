@@ -4,3 +4,13 @@ pub mod Orders
 pub mod Builds
 pub mod Reads
 pub mod Laws
+pub mod Chains
+pub mod Members
+pub mod Answers
+pub mod Puts
+pub mod Rekeys
+pub mod PastViews
+pub mod Lawful
+pub mod Ids
+pub mod ChainLaws
+pub mod PutForms

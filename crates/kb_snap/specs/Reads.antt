@@ -9,6 +9,7 @@ use Rattle.kb_ops.specs.declared.values.Kind.TheVariants.{Dir, File, Link}
 use Rattle.kb_ops.specs.declared.rows.Row.{Row}
 use Rattle.kb_ops.specs.Trees.{Tree, root_row}
 use Rattle.kb_blocks.specs.declared.pointer.Ptr.{Ptr}
+use Rattle.kb_files.specs.Stops.{FileStops}
 use Rattle.kb_files.specs.Files.{Vault, IsFileOf}
 use Rattle.kb_files.specs.Opens.{Blocks, Refuses, FaultNames}
 use Rattle.kb_files.specs.declared.loading.LoadFault.{LoadFault}
@@ -47,8 +48,8 @@ FoundKind vault w old new Link bytes = IsFileOf vault w.entry.size w.entry.ptr b
 -- the entry's pointer holds nothing of the entry's kind
 abbrev pub RefusedKind : Vault → Blocks → Waiting → Kind → LoadFault → Type 0
 RefusedKind vault blocks w Dir fault = Refuses blocks (HoldsDir vault w.entry.ptr) fault × FaultNames w.entry.ptr.id fault
-RefusedKind vault blocks w File fault = Refuses blocks (IsFileOf vault w.entry.size w.entry.ptr) fault
-RefusedKind vault blocks w Link fault = Refuses blocks (IsFileOf vault w.entry.size w.entry.ptr) fault
+RefusedKind vault blocks w File fault = Refuses blocks (IsFileOf vault w.entry.size w.entry.ptr) fault × FileStops vault blocks w.entry.size w.entry.ptr fault
+RefusedKind vault blocks w Link fault = Refuses blocks (IsFileOf vault w.entry.size w.entry.ptr) fault × FileStops vault blocks w.entry.size w.entry.ptr fault
 
 abbrev pub ReadsBytes : Vault → Blocks → Waiting → List Waiting → List Waiting → Result (Vec ℕ Global) LoadFault → Type 0
 ReadsBytes vault blocks w old new (Ok bytes) = FoundKind vault w old new w.entry.kind bytes.items

@@ -3,6 +3,7 @@
 
 mod blocks;
 mod building;
+mod chain_laws;
 mod laws;
 mod listing;
 mod loading;
@@ -14,6 +15,9 @@ mod tests;
 
 pub use blocks::SealedBlocks;
 pub use building::{Built, build};
-pub use laws::{left_law, more_blocks_law, one_tree_law, row_by_row_law, stays_law};
+pub use chain_laws::chains_are_lawful;
+pub use laws::{
+    left_law, more_blocks_law, more_keys_law, one_tree_law, row_by_row_law, set_law, stays_law,
+};
 pub use loading::load;
 pub use pointers::Pointers;

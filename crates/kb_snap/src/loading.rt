@@ -135,7 +135,7 @@ fn keep(rows: &mut Rows, pointers: &mut Pointers, row: Row, ptr: Ptr) -> Result<
 ///
 /// A directory's block that has an entry with the root's id, or with an id that came in an entry read before, is bad:
 /// so no tree of blocks is read without end. A refusal names the first block in this order that isn't stored or isn't
-/// right at its place, or, within a file or link, the block by which `join` refuses it.
+/// right at its place.
 pub fn load<S: Sealer, H: BlockHash>(
     alloc: Global,
     root: Ptr,

@@ -40,7 +40,7 @@ impl Pointers {
     }
 
     /// The pointer that is kept for a row.
-    pub(crate) fn get(&self, id: NodeId) -> Option<Ptr>
+    pub fn get(&self, id: NodeId) -> Option<Ptr>
         ensures { result ≡ map.get self.now id }
     {
         self.by_id.get(&id).copied()
@@ -62,7 +62,7 @@ impl Pointers {
     }
 
     /// Keeps a pointer for a row, in place of any other.
-    pub(crate) fn set(&mut self, id: NodeId, ptr: Ptr) -> Result<(), Memory>
+    pub fn set(&mut self, id: NodeId, ptr: Ptr) -> Result<(), Memory>
         ensures ok { OnOk result (self.new ≡ map.insert self.old id ptr) }
         ensures err { OnErr result (self.new ≡ self.old) }
     {
