@@ -1,0 +1,5 @@
+pub mod Revisions
+pub mod Parses
+pub mod Privates
+pub mod Checks
+pub mod Laws
