@@ -1,0 +1,16 @@
+pub mod MemberLonger
+pub mod Rows
+pub mod Machine
+pub mod GoodStates
+pub mod Unfused
+pub mod Roles
+pub mod PartAnswers
+pub mod WorldSteps
+pub mod One
+pub mod Sole
+pub mod Determined
+pub mod Begins
+pub mod Linked
+pub mod RunBlocks
+pub mod Choices
+pub mod Examples
