@@ -1,0 +1,9 @@
+pub mod Parts
+pub mod Seen
+pub mod Cuts
+pub mod Known
+pub mod Looking
+pub mod Edits
+pub mod Merges
+pub mod Bounds
+pub mod Checked
