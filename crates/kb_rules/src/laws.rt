@@ -15,9 +15,7 @@ use kb_ops::Row;
 /// Memory holds fewer rows than numbers of conflicted names.
 pub fn few(rows: &[Row])
     ensures { length rows.now < 2 ^ 57 }
-{
-    let _count = rows.len();
-}
+{}
 
 /// The stamp's name is that of a device.
 pub fn device(stamp: &Stamp)
