@@ -1,55 +1,117 @@
--- A longer chain keeps the trees of its revisions, and what a device stands for.
-use Rattle.std.proofs.Common.{◌≡◌, ℕ, zero, suc, ◌≤◌, ◌<◌, List, [], ◌∷◌, ◌++◌, length, All, Option, None, Some, MatchOption, false, refl, sym, ◌∙◌, subst, arith, length-append}
-use Rattle.std.specs.Prelude.{slice_get}
-use Rattle.std.specs.Option.{option_map_or}
-use Rattle.std.proofs.lemmas.List.Elements.{All-weaker}
-use Rattle.kb_edge.specs.declared.disk.Disk.{Ghosts}
-use Rattle.kb_ops.specs.Trees.{FitAll}
-use Rattle.kb_journal.specs.State.{State}
-use Rattle.kb_device.specs.Chains.{Chain, Revision, tree_at, tree_after}
+-- A device stands for its part while the folder goes on.
+use Rattle.std.proofs.Common.{◌≡◌, ℕ, zero, suc, ◌≤◌, ◌<◌, false, List, [], ◌∷◌, ◌++◌, length, map, reverse, Option, None, Some, MatchOption, inl, inr, refl, sym, ap, subst, ◌∙◌, arith}
+use Rattle.std.specs.Prelude.{slice_index_or}
+use Rattle.std.specs.FinMap.{get}
+use Rattle.std.proofs.lemmas.List.{length-map, length-reverse, reverse-append, map-append}
+use Rattle.std.proofs.lemmas.List.Elements.{All-contains}
+use Rattle.sha2.specs.Sha256.{sha256}
+use Rattle.kb_ops.specs.Trees.{look}
+use Rattle.kb_files.specs.Opens.{Opens}
+use Rattle.kb_files.proofs.Vaults.{opens_kept}
+use Rattle.kb_snap.proofs.Kept.{row_within}
+use Rattle.kb_snap.specs.Chains.{Chain}
+use Rattle.kb_device.specs.Journals.{plain}
 use Rattle.kb_device.specs.Parts.{Part}
-use Rattle.kb_device.specs.Stands.{DeviceStands, SessionStands, IsOfChain}
-use Rattle.kb_device.specs.declared.device.Device.{Device}
-use Rattle.kb_device.specs.declared.session.Session.{Session}
-use Rattle.kb_device.proofs.Sessions.{state_of_chain}
+use Rattle.kb_device.specs.Meets.{Meets, PartMeets}
+use Rattle.kb_device.specs.Disks.{hash_at, IsKept}
+use Rattle.kb_snap.proofs.Chains.{tree_longer}
+use Rattle.kb_folder.specs.Chains.{Names}
+use Rattle.kb_folder.specs.Stands.{Revisions, keys_to}
+use Rattle.kb_folder.specs.Puts.{Held}
+use Rattle.kb_folder.specs.Goes.{HasChain, Grows}
+use Rattle.kb_folder.proofs.Standing.{stands_length}
+use Rattle.kb_device.proofs.Remember.{longer}
+use Rattle.kb_device.specs.Inside.{Inside}
+use Rattle.kb_device.specs.Stands.{Platter, Member, hashes_of, DiskStands, SessionStands, DeviceStands}
+use Rattle.kb_device.specs.Forms.{StandsLonger}
 
-slice_get-append : {A : Type 0} (xs ys : List A) (i : ℕ) → i < length xs → slice_get (xs ++ ys) i ≡ slice_get xs i
-slice_get-append [] ys i h = absurd (omega arith)
-slice_get-append (x ∷ xs) ys zero h = refl
-slice_get-append (x ∷ xs) ys (suc i) h = slice_get-append xs ys i (omega arith)
+-- ---- the hashes of a longer chain
 
-pub tree_longer : (c more : Chain) (r : ℕ) → r ≤ length c → tree_at (c ++ more) r ≡ tree_at c r
-tree_longer c more zero h = refl
-tree_longer c more (suc r) h =
-    let before = tree_longer c more r (omega arith) in
-    let here = slice_get-append c more r (omega arith) in
-    (λ i. option_map_or (λ (revision : Revision). tree_after revision.deed (before i)) (here i) (before i))
+front : (hs xs : List (List ℕ)) (r : ℕ) → r < length hs → slice_index_or (hs ++ xs) r [] ≡ slice_index_or hs r []
+front [] xs r lt = absurd (omega arith)
+front (h ∷ hs) xs zero lt = refl
+front (h ∷ hs) xs (suc r) lt = front hs xs r (omega arith)
 
-of_longer : (d : ℕ) (c more : Chain) (j : State) → IsOfChain d c j → IsOfChain d (c ++ more) j
-of_longer d c more j h = record {
-  within = (let w = h.within in omega (arith, length-append c more));
-  own = h.own;
-  fit = subst (FitAll j.queue) (sym (tree_longer c more j.known h.within)) h.fit;
-}
+hash_more : (hs xs : List (List ℕ)) (k : ℕ) → k ≤ length hs → hash_at (hs ++ xs) k ≡ hash_at hs k
+hash_more hs xs zero le = refl
+hash_more hs xs (suc r) le = front hs xs r (omega arith)
 
-session_longer : {D : Type 0} (d : ℕ) (c more : Chain) (session : Option (Session D)) (p : Part) → All (IsOfChain d c) p.may
-    → MatchOption session (p.is_open ≡ false) (λ s. SessionStands c s p) → MatchOption session (p.is_open ≡ false) (λ s. SessionStands (c ++ more) s p)
-session_longer d c more None p all h = h
-session_longer d c more (Some s) p all h = record {
-  at = h.at;
-  base = h.base ∙ sym (tree_longer c more s.journal.state.known (state_of_chain d c p s.journal.state h.at.journal_is all).within);
-  table = h.table;
-}
+pub hashes_push : (b : List ℕ) (bs : Revisions) → hashes_of (b ∷ bs) ≡ hashes_of bs ++ sha256 b ∷ []
+hashes_push b bs = ap (map sha256) (reverse-append (b ∷ []) bs) ∙ map-append sha256 (reverse bs) (b ∷ [])
 
-pub stands_longer : {D : Type 0} {disks : Ghosts D} (c more : Chain) (device : Device D disks) (p : Part) → DeviceStands c device p → DeviceStands (c ++ more) device p
-stands_longer c more device p h = record {
-  disk = h.disk;
-  has = h.has;
-  stands = record {
-    images = h.stands.images;
-    area = h.stands.area;
-    left = h.stands.left;
-    of_chain = All-weaker (IsOfChain device.number c) (IsOfChain device.number (c ++ more)) (of_longer device.number c more) p.may h.stands.of_chain;
-  };
-  session = session_longer device.number c more device.session p h.stands.of_chain h.session;
-}
+pub length-hashes : (bs : Revisions) → length (hashes_of bs) ≡ length bs
+length-hashes bs = length-map (reverse bs) sha256 ∙ length-reverse bs
+
+pub hash_longer : (b : List ℕ) (bs : Revisions) (k : ℕ) → k ≤ length bs → hash_at (hashes_of (b ∷ bs)) k ≡ hash_at (hashes_of bs) k
+hash_longer b bs k le =
+    ap (λ hs. hash_at hs k) (hashes_push b bs)
+    ∙ hash_more (hashes_of bs) (sha256 b ∷ []) k (let e = length-hashes bs in omega (arith, le, e))
+
+pub hash_grown : (f new : Held) → Grows f new → (k : ℕ) → k ≤ length f.revisions → hash_at (hashes_of new.revisions) k ≡ hash_at (hashes_of f.revisions) k
+hash_grown f new (inl e) k le = ap (λ (g : Held). hash_at (hashes_of g.revisions) k) e
+hash_grown f new (inr p) k le = ap (λ bs. hash_at (hashes_of bs) k) p.revisions ∙ hash_longer p.bytes f.revisions k le
+
+pub blocks_grown : (f new : Held) → Grows f new → (id b : List ℕ) → get f.blocks id ≡ Some b → get new.blocks id ≡ Some b
+blocks_grown f new (inl e) id b at = ap (λ (g : Held). get g.blocks id) e ∙ at
+blocks_grown f new (inr p) id b at = p.blocks id b at
+
+registered_grown : (f new : Held) → Grows f new → new.state.registered ≡ f.state.registered
+registered_grown f new (inl e) = ap (λ (g : Held). g.state.registered) e
+registered_grown f new (inr p) = p.registered
+
+module _ (sealed signed : List ℕ → List ℕ → List ℕ) (hashed : List ℕ → List ℕ) (seed : List ℕ) (names : Names) where
+  pub chain_length : (f : Held) (c : Chain) → HasChain sealed signed hashed seed names f c → length c ≡ length f.revisions
+  chain_length f c has = ap length has.turned ∙ length-reverse has.back ∙ sym (stands_length sealed signed hashed seed names f.state.registered (get f.blocks) f.revisions has.back has.stands.stands)
+
+  module _ (d : ℕ) (f new : Held) (c more : Chain) (p : Part) (grows : Grows f new) (has : HasChain sealed signed hashed seed names f c) (part : PartMeets d c p) where
+    kept_longer : (image : List ℕ) → IsKept (hashes_of f.revisions) p.may image → IsKept (hashes_of new.revisions) p.may image
+    kept_longer image k =
+        let m = All-contains (Meets d c) p.may (plain k.state) part.may k.one_of in
+        record {
+          state = k.state;
+          has = k.has;
+          one_of = k.one_of;
+          hash = k.hash ∙ sym (hash_grown f new grows k.state.known (let le = m.within in let e = chain_length f c has in omega (arith, le, e)));
+        }
+
+    pub disk_longer : (disk : Platter) → DiskStands f.revisions disk p → DiskStands new.revisions disk p
+    disk_longer disk h = record { images = λ image may. kept_longer image (h.images image may); area = h.area; left = h.left }
+
+    pub session_longer : (s : Inside) → SessionStands sealed signed hashed seed names f c s p → SessionStands sealed signed hashed seed names new (c ++ more) s p
+    session_longer s h = record {
+      at = h.at;
+      running = h.running;
+      base = h.base;
+      shown = h.shown;
+      role = h.role;
+      remembers = longer sealed signed hashed seed names f new c more s.journal.known s.journal.hash s.generation s.kept has h.remembers grows;
+      held = λ q x at. row_within (Opens sealed hashed (get f.blocks) (keys_to seed s.generation)) (Opens sealed hashed (get new.blocks) (keys_to seed s.generation)) (opens_kept sealed hashed (get f.blocks) (get new.blocks) (keys_to seed s.generation) (blocks_grown f new grows)) (look s.base) q x (h.held q x at);
+      ring = h.ring;
+      flight = h.flight;
+      plan = h.plan;
+      planned = λ x is.
+          let y = h.planned x is in
+          record {
+            merged = y.merged ∙ sym (tree_longer c more x.number y.remembers.within);
+            remembers = longer sealed signed hashed seed names f new c more x.number x.hash x.generation x.kept has y.remembers grows;
+            ring = y.ring;
+            base = y.base ∙ sym (tree_longer c more s.journal.known h.remembers.within);
+          };
+    }
+
+    inside_longer : (o : Option Inside) → MatchOption o (p.is_open ≡ false) (λ s. SessionStands sealed signed hashed seed names f c s p) → MatchOption o (p.is_open ≡ false) (λ s. SessionStands sealed signed hashed seed names new (c ++ more) s p)
+    inside_longer None h = h
+    inside_longer (Some s) h = session_longer s h
+
+    pub device_longer : (v : Member) → DeviceStands sealed signed hashed seed names d f c v p → DeviceStands sealed signed hashed seed names d new (c ++ more) v p
+    device_longer v h = record {
+      number = h.number;
+      name = h.name;
+      secret = h.secret;
+      registered = (h.registered.0, subst (λ n. d ≤ n) (sym (registered_grown f new grows)) h.registered.1);
+      disk = disk_longer v.disk h.disk;
+      session = inside_longer v.inside h.session;
+    }
+
+  pub stands_longer : StandsLonger sealed signed hashed seed names
+  stands_longer d f new c more v p grows has has' part h = device_longer d f new c more p grows has part v h

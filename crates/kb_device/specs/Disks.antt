@@ -1,19 +1,16 @@
--- The disk of a device.
-use Rattle.std.specs.Prelude.{◌≡◌, Option, None, Some}
-use Rattle.kb_edge.specs.Causes.{Rose}
-use Rattle.kb_edge.specs.declared.disk.Disk.{Ghosts}
-use Rattle.kb_device.specs.declared.device.Device.{Device}
-use Rattle.kb_device.specs.declared.session.Session.{Session}
+-- What a disk keeps of a part, where the chain's revisions have these hashes.
+use Rattle.std.specs.Prelude.{◌≡◌, ℕ, zero, suc, List, [], replicate, slice_index_or, Contains}
+use Rattle.kb_journal.specs.State.{State, HasState}
+use Rattle.kb_device.specs.Journals.{Journal, plain}
 
--- the disk at rest, or that of the session
-abbrev pub disk_in : {D : Type 0} → Option D → Option (Session D) → Option D
-disk_in (Some disk) session = Some disk
-disk_in None (Some session) = Some session.journal.disk
-disk_in None None = None
+-- the hash of the r-th revision, and zeros for none
+abbrev pub hash_at : List (List ℕ) → ℕ → List ℕ
+hash_at hashes zero = replicate 32 0
+hash_at hashes (suc r) = slice_index_or hashes r []
 
-abbrev pub disk_of : {D : Type 0} {disks : Ghosts D} → Device D disks → Option D
-disk_of device = disk_in device.resting device.session
-
--- how often the disk has failed rose
-abbrev pub HasFailed : {D : Type 0} {disks : Ghosts D} → Device D disks → Device D disks → Type 0
-HasFailed {D} {disks} old new = (was is : D) → disk_of old ≡ Some was → disk_of new ≡ Some is → Rose (disks.faults was) (disks.faults is)
+-- the image is a journal that the part may have, and its hash is that of its known revision
+pub record IsKept (hashes : List (List ℕ)) (may : List Journal) (image : List ℕ) : Type 0 where
+  pub state : State
+  pub has : HasState state image
+  pub one_of : Contains may (plain state)
+  pub hash : state.hash ≡ hash_at hashes state.known

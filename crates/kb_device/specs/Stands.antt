@@ -1,52 +1,82 @@
--- What a device stands for.
-use Rattle.std.specs.Prelude.{◌≡◌, ℕ, ◌≤◌, false, List, length, All, Contains, Some, MatchOption}
-use Rattle.kb_edge.specs.Goes.{Goes, Stays}
-use Rattle.kb_edge.specs.declared.disk.Disk.{Ghosts}
-use Rattle.kb_ops.specs.Trees.{FitAll}
-use Rattle.kb_log.specs.Images.{EachImage}
+-- What a device stands for, at a folder with its chain.
+use Rattle.std.specs.Prelude.{◌≡◌, ℕ, ◌≤◌, false, List, length, map, reverse, take, Bool, Option, Some, MatchOption}
+use Rattle.std.specs.Option.{option_map}
+use Rattle.std.specs.FinMap.{get}
+use Rattle.sha2.specs.Sha256.{sha256}
+use Rattle.kb_edge.specs.Disk.{MayLeave}
+use Rattle.kb_ops.specs.Trees.{look, fold_ops}
 use Rattle.kb_log.specs.LogList.{area_size}
-use Rattle.kb_journal.specs.State.{State, HasState}
-use Rattle.kb_device.specs.Chains.{Chain, tree_at}
+use Rattle.kb_keys.specs.Rings.{Keys, key_at}
+use Rattle.kb_keys.specs.Secrets.{device_secret}
+use Rattle.kb_files.specs.Opens.{Opens}
+use Rattle.kb_snap.specs.Pointers.{AllHold}
+use Rattle.kb_snap.specs.Chains.{Chain, tree_at}
+use Rattle.kb_device.specs.Journals.{plain}
 use Rattle.kb_device.specs.Parts.{Part, IsOpenAt, tree_shown}
-use Rattle.kb_device.specs.Disks.{disk_of}
-use Rattle.kb_device.specs.Openings.{AreOf}
-use Rattle.kb_device.specs.declared.device.Device.{Device}
-use Rattle.kb_device.specs.declared.session.Session.{Session}
+use Rattle.kb_device.specs.Disks.{IsKept}
+use Rattle.kb_folder.specs.Chains.{Names}
+use Rattle.kb_folder.specs.Stands.{Revisions, keys_to}
+use Rattle.kb_folder.specs.Puts.{Held}
+use Rattle.kb_device.specs.Remembering.{Remembers}
+use Rattle.kb_device.specs.Inside.{Aloft, Plan, Inside, IsRunning}
 
--- a state that the journal of the device with this number may be in under this chain
-pub record IsOfChain (d : ℕ) (chain : Chain) (journal : State) : Type 0 where
-  pub within : journal.known ≤ length chain
-  pub own : AreOf d journal.queue
-  pub fit : FitAll journal.queue (tree_at chain journal.known)
+-- a disk: its bytes, the places that a power cut may change, and how many steps still succeed for sure, where that is set
+pub record Platter : Type 0 where
+  pub content : List ℕ
+  pub dirty : ℕ → Bool
+  pub left : Option ℕ
 
--- the image has one of these states
-abbrev pub HasOneOf : List State → List ℕ → Type 0
-HasOneOf may image = (journal : State) × Contains may journal × HasState journal image
+-- A device: its number, its name and its secret, its disk, and what it has while a session is open.
+pub record Member : Type 0 where
+  pub number : ℕ
+  pub name : List ℕ
+  pub secret : List ℕ
+  pub disk : Platter
+  pub inside : Option Inside
 
--- whatever a power cut leaves of the disk of the device with this number, an opening finds one of the part's states
-pub record DiskStands {D : Type 0} (disks : Ghosts D) (chain : Chain) (d : ℕ) (disk : D) (p : Part) : Type 0 where
-  pub images : EachImage disks.content disks.dirty disk (HasOneOf p.may)
-  pub area : p.area ≡ area_size (length (disks.content disk))
-  pub left : p.left ≡ disks.left disk
-  pub of_chain : All (IsOfChain d chain) p.may
+-- the hashes of the revisions, the first one first
+abbrev pub hashes_of : Revisions → List (List ℕ)
+hashes_of bs = map sha256 (reverse bs)
 
--- the session is at this part, and its table is the queue folded over the tree of the known revision
-pub record SessionStands {D : Type 0} (chain : Chain) (session : Session D) (p : Part) : Type 0 where
-  pub at : IsOpenAt p session.journal.state
-  pub base : p.base ≡ tree_at chain session.journal.state.known
-  pub table : session.table.tree ≡ tree_shown p session.journal.state
+-- Whatever a power cut leaves of the disk is a journal that the part may have, with the hash of its known revision.
+pub record DiskStands (bs : Revisions) (disk : Platter) (p : Part) : Type 0 where
+  pub images : (image : List ℕ) → MayLeave disk.content disk.dirty image → IsKept (hashes_of bs) p.may image
+  pub area : p.area ≡ area_size (length disk.content)
+  pub left : p.left ≡ disk.left
 
--- under this chain, the device is at this part of the plain machine
-pub record DeviceStands {D : Type 0} {disks : Ghosts D} (chain : Chain) (device : Device D disks) (p : Part) : Type 0 where
-  pub disk : D
-  pub has : disk_of device ≡ Some disk
-  pub stands : DiskStands disks chain device.number disk p
-  pub session : MatchOption device.session (p.is_open ≡ false) (λ session. SessionStands chain session p)
+-- the ring has the folder keys of the generations up to this one, and no others
+abbrev pub RingStands : List ℕ → ℕ → Keys → Type 0
+RingStands seed generation ring = (g : ℕ) → key_at ring g ≡ keys_to seed generation g
 
-module _ {D : Type 0} {disks : Ghosts D} where
-  -- whatever the chain, it goes on so, or stays
-  abbrev pub DeviceGoes : Device D disks → Device D disks → (Part → Part → Type 0) → Type 0
-  DeviceGoes old new step = (chain : Chain) → Goes (DeviceStands chain) old new step
+-- What was fetched is so in the folder.
+pub record PlanStands (sealed : List ℕ → List ℕ → List ℕ) (hashed : List ℕ → List ℕ) (seed : List ℕ) (f : Held) (c : Chain) (known : ℕ) (x : Plan) : Type 0 where
+  pub merged : x.merged ≡ tree_at c x.number
+  pub remembers : Remembers sealed hashed seed f c x.number x.hash x.generation x.kept
+  pub ring : RingStands seed x.generation x.ring
+  pub base : x.base ≡ tree_at c known
 
-  abbrev pub DeviceStays : Device D disks → Device D disks → Type 0
-  DeviceStays old new = (chain : Chain) → Stays (DeviceStands chain) old new
+module _ (sealed signed : List ℕ → List ℕ → List ℕ) (hashed : List ℕ → List ℕ) (seed : List ℕ) (names : Names) where
+  -- A session: the journal is the part's one; the base table is the tree of the known revision with the operations that
+  -- it is ahead by; the table shown is the queue folded over that tree; the hash, the generation and the pointers are
+  -- those of the known revision, and the pointers hold rows of the base table too.
+  pub record SessionStands (f : Held) (c : Chain) (s : Inside) (p : Part) : Type 0 where
+    pub at : IsOpenAt p (plain s.journal)
+    pub running : IsRunning s
+    pub base : s.base ≡ fold_ops (take s.ahead s.journal.queue) p.base
+    pub shown : s.shown ≡ tree_shown p (plain s.journal)
+    pub role : s.role ≡ p.role
+    pub remembers : Remembers sealed hashed seed f c s.journal.known s.journal.hash s.generation s.kept
+    pub held : AllHold (Opens sealed hashed (get f.blocks) (keys_to seed s.generation)) (look s.base) s.kept
+    pub ring : RingStands seed s.generation s.ring
+    pub flight : p.flight ≡ option_map (λ (a : Aloft). a.flight) s.aloft
+    pub plan : p.plan ≡ option_map (λ (x : Plan). x.number) s.plan
+    pub planned : (x : Plan) → s.plan ≡ Some x → PlanStands sealed hashed seed f c s.journal.known x
+
+  -- The device with this number, which the folder has registered, is at this part.
+  pub record DeviceStands (d : ℕ) (f : Held) (c : Chain) (v : Member) (p : Part) : Type 0 where
+    pub number : v.number ≡ d
+    pub name : v.name ≡ names d
+    pub secret : v.secret ≡ device_secret seed d
+    pub registered : (1 ≤ d) × (d ≤ f.state.registered)
+    pub disk : DiskStands f.revisions v.disk p
+    pub session : MatchOption v.inside (p.is_open ≡ false) (λ s. SessionStands f c s p)

@@ -1,247 +1,357 @@
-//! A session: an open journal, and the tree that its queue makes.
-ghost use Rattle.std.specs.Prelude.{◌≡◌, ◌≢◌, ◌⊎◌, ◌↔◌, IsTrue, ◌≤◌, ◌<◌, ◌+◌, ◌^◌, true, false, length, IfOk, IfErr, OnOk, OnErr, IsErrOf};
+//! A session: an open journal, the tree of the known revision, the tree that the queue makes of it, and what a request
+//! needs.
+ghost use Rattle.std.specs.Prelude.{◌≡◌, ◌≤◌, ◌<◌, ℕ, true, false, [], length, IfOk, OnOk, OnErr, Err, IsSome};
 ghost use Rattle.kb_edge.specs.Causes.{Rose};
-ghost use Rattle.kb_edge.specs.Disk.{FallsBy};
-ghost use Rattle.kb_log.specs.Images.{EachImage};
-ghost use Rattle.kb_log.specs.LogList.{area_size};
-ghost use Rattle.kb_log.specs.Steps.{RanOut};
+ghost use Rattle.kb_journal.specs.State.{allows};
+ghost use Rattle.kb_journal.specs.declared.entries.Entry.TheVariants as entry;
+ghost use Rattle.kb_device.specs.Noting.{Writes, Stops, landed, parted, with_landed, NoteDoes, UnlessStopped};
+ghost use Rattle.kb_device.specs.Pulling.{headed, with_head, IsReadable, PullDoes, UnlessStopped as UnlessPullStopped};
+ghost use Rattle.kb_folder.specs.Held.{held};
+ghost use Rattle.kb_device.specs.declared.answers.PullFault.TheVariants as pull;
+ghost use Rattle.kb_device.specs.declared.answers.Noted.TheVariants as noted;
+ghost use Rattle.kb_device.specs.declared.answers.NoteFault.TheVariants as stop;
+ghost use Rattle.kb_ops.specs.Trees.{Fits};
 ghost use Rattle.kb_ops.specs.Grammar.{IsProper};
-ghost use Rattle.kb_ops.specs.Trees as trees;
-ghost use Rattle.kb_ops.specs.Trees.{start, fold_ops, Fits};
-ghost use Rattle.kb_journal.specs.Adding.{Takes};
-ghost use Rattle.kb_journal.specs.State.{HasState, last_seq, takes_device};
-ghost use Rattle.kb_device.specs.Calling.{CallDoes, OpRefuses, UnlessStopped};
-ghost use Rattle.kb_device.specs.Openings.{IsOurs, Begins, Fails};
-ghost use Rattle.kb_device.specs.Parts.{caught_up, queued, status_of};
-ghost use Rattle.kb_device.specs.Running.{IsRunning, IsSized};
+ghost use Rattle.kb_keys.specs.Rings.{key_at};
+ghost use Rattle.kb_device.specs.Fresh.{IsOwned};
+ghost use Rattle.kb_device.specs.Inside.{IsRunning, HasDone};
+ghost use Rattle.kb_device.specs.Views.{inside, aloft_of, platter, read_of};
+ghost use Rattle.kb_device.specs.Picking.{PickDoes, FirstOf, IsMade};
+ghost use Rattle.kb_device.specs.declared.answers.PickFault.TheVariants as fault;
 
-use crate::answers::{Called, OpenFault, Refusal, Status};
-use kb_apply::{apply, fits, plan, prepare};
-use kb_edge::{Disk, Memory};
-use kb_journal::{AddFault, Hash, Journal, Note};
-use kb_name::Moment;
-use kb_ops::{Op, Planned, Request};
+use crate::answers::{NoteFault, Noted, PickFault, Picked, PullFault, PutAnswer};
+use crate::head::{Goal, Head};
+use crate::heading::read_next;
+use crate::left_pointers::forget_touched;
+use crate::reading::ReadFault;
+use crate::step_requests::{StepMade, step_request};
+use kb_apply::{apply, prepare};
+use kb_blocks::{BlockHash, Hash};
+use kb_chain::PutRefusal;
+use kb_edge::{Disk, Memory, Stopped};
+use kb_folder::Folder;
+use kb_journal::{Journal, Note};
+use kb_keys::{KeyRing, Role};
+use kb_ops::Op;
+use kb_seal::{Key, Sealer};
+use kb_snap::Pointers;
 use kb_tree::Table;
 use std::alloc::Global;
 
-/// An open journal, and the tree of its known revision with its queue done.
+/// What is in flight: so many first operations of the queue, from this seq on, as the revision with this number. The
+/// pointers are those of the tree after it.
+#[derive(Drop)]
+pub struct Flight {
+    pub first: u32,
+    pub count: u32,
+    pub number: u32,
+    pub pointers: Pointers,
+}
+
+/// An open session. The base table is the tree of the known revision, with so many first operations of the queue done
+/// as it is ahead.
 #[derive(Drop)]
 pub struct Session<D: Disk> {
     pub journal: Journal<D>,
-    pub table: Table,
+    pub base: Table,
+    pub ahead: u32,
+    pub shown: Table,
+    pub pointers: Pointers,
+    pub ring: KeyRing,
+    pub generation: u32,
+    pub role: Option<Role>,
+    pub aloft: Option<Flight>,
+    pub plan: Option<Goal>,
 }
 
-// The folder's one revision, and its hash, as revisions have no bytes yet.
-const FIRST: u32 = 1;
-
-const NO_HASH: Hash = [0; 32];
-
-// Why a queue makes no tree.
-enum FoldFault {
-    Foreign,
-    Memory,
-}
-
-// Whether an operation is of this device, and fits.
-fn is_ours(number: u16, table: &Table, op: &Op) -> bool
-    ensures { IsTrue result ↔ (op.now.device ≡ number) × Fits op.now table.now.tree }
+fn copy_of(op: &Op) -> Result<Op, Memory>
+    ensures { IfOk result (λ same. same ≡ op.now) }
 {
-    op.device == number && fits(table, op)
+    Ok(op.clone()?)
 }
 
-// Does an operation that fits.
-fn do_op(alloc: Global, table: &mut Table, op: &Op) -> Result<(), Memory>
-    requires { Fits op.now table.old.tree }
-    ensures { OnOk result (table.new.tree ≡ trees.apply op.now table.old.tree) }
+// The first operation of a queue.
+fn first_of(queue: &[Op]) -> Result<Op, PickFault>
+    ensures { FirstOf queue.now result }
 {
-    let prepared = prepare(alloc, table, op)?;
-    apply(table, prepared);
+    match queue {
+        [] => Err(PickFault::Idle),
+        [op, _rest @ ..] => match copy_of(op) {
+            Ok(op) => Ok(op),
+            Err(Memory) => Err(PickFault::Memory),
+        },
+    }
+}
+
+// Whether an operation waits.
+fn is_waiting(queue: &[Op]) -> bool
+    ensures some { result ≡ true → 0 < length queue.now }
+    ensures none { result ≡ false → queue.now ≡ [] }
+{
+    !queue.is_empty()
+}
+
+// Does the first operation on the base table, where that isn't ahead yet, and drops the pointers that it touches.
+fn go_ahead(
+    alloc: Global,
+    base: &mut Table,
+    pointers: &mut Pointers,
+    ahead: &mut u32,
+    op: &Op,
+) -> Result<(), Memory>
+    requires few { ahead.old ≤ 1 }
+    requires fits { ahead.old ≡ 0 → Fits op.now base.old.tree }
+    ensures ok { OnOk result (HasDone op.now ahead.old ahead.new base.old.tree base.new.tree pointers.old pointers.new) }
+    ensures base { OnErr result (base.new.tree ≡ base.old.tree) }
+    ensures pointers { OnErr result (pointers.new ≡ pointers.old) }
+    ensures ahead { OnErr result (ahead.new ≡ ahead.old) }
+{
+    if *ahead != 0 {
+        return Ok(());
+    }
+    let prepared = prepare(alloc, base, op)?;
+    forget_touched(pointers, base, &op.change);
+    apply(base, prepared);
+    *ahead = 1;
     Ok(())
 }
 
-// The tree that a queue makes of the root alone, where all of it is of this device and fits.
-fn fold(alloc: Global, number: u16, queue: &[Op]) -> Result<Table, FoldFault>
-    ensures folded { IfOk result (λ table. table.tree ≡ fold_ops queue.now start) }
-    ensures ours { OnOk result (IsOurs number queue.now) }
-    ensures foreign { IsErrOf result FoldFault.Foreign → ¬ IsOurs number queue.now }
-{
-    let mut table = match Table::new(alloc) {
-        Ok(table) => table,
-        Err(Memory) => return Err(FoldFault::Memory),
-    };
-    for op in queue {
-        if !is_ours(number, &table, op) {
-            return Err(FoldFault::Foreign);
-        }
-        match do_op(alloc, &mut table, op) {
-            Ok(()) => {}
-            Err(Memory) => return Err(FoldFault::Memory),
-        }
-    }
-    Ok(table)
-}
-
-// Where no operation waits and no revision is known, the folder's one revision becomes known. Where the disk stops, it is
-// given back.
-fn catch_up<D: Disk>(mut journal: Journal<D>) -> Result<Journal<D>, D>
-    requires opened { journal.is_open ≡ true }
-    requires durable { EachImage D.content D.dirty journal.disk (HasState journal.state) }
-    ensures opened { IfOk result (λ now. now.is_open ≡ true) }
-    ensures state { IfOk result (λ now. now.state ≡ caught_up 1 journal.state) }
-    ensures durable { IfOk result (λ now. EachImage D.content D.dirty now.disk (HasState (caught_up 1 journal.state))) }
-    ensures every { IfErr result (λ disk. EachImage D.content D.dirty disk (λ image. HasState journal.state image ⊎ HasState (caught_up 1 journal.state) image)) }
-    ensures size { IfOk result (λ now. length (D.content now.disk) ≡ length (D.content journal.disk)) }
-    ensures size_err { IfErr result (λ disk. length (D.content disk) ≡ length (D.content journal.disk)) }
-    ensures left { IfOk result (λ now. FallsBy 4 (D.left journal.disk) (D.left now.disk)) }
-    ensures spent { IfErr result (λ disk. RanOut 4 (D.left journal.disk) (D.left disk)) }
-    ensures rose { IfErr result (λ disk. Rose (D.faults journal.disk) (D.faults disk)) }
-{
-    if !journal.queue().is_empty() || journal.known() != 0 {
-        return Ok(journal);
-    }
-    let head = Note::Head {
-        number: FIRST,
-        hash: NO_HASH,
-    };
-    match journal.note(&head) {
-        Ok(()) => Ok(journal),
-        Err(_) => Err(journal.finish()),
-    }
-}
-
-// Queues an operation that fits, and then does it on the table. All memory is taken before the disk is written.
-fn queue_op<D: Disk>(
-    alloc: Global,
-    journal: &mut Journal<D>,
-    table: &mut Table,
-    op: Op,
-) -> Result<(), AddFault>
-    requires opened { journal.old.is_open ≡ true }
-    requires proper { IsProper op }
-    requires device { takes_device journal.old.state.queue op.device ≡ true }
-    requires next { op.seq ≡ last_seq journal.old.state + 1 }
-    requires fits { Fits op table.old.tree }
-    ensures opened { OnOk result (journal.new.is_open ≡ true) }
-    ensures state { OnOk result (journal.new.state ≡ queued journal.old.state op) }
-    ensures table { OnOk result (table.new.tree ≡ trees.apply op table.old.tree) }
-    ensures same { OnErr result (table.new.tree ≡ table.old.tree) }
-    ensures size { length (D.content journal.new.disk) ≡ length (D.content journal.old.disk) }
-    ensures durable { OnOk result (EachImage D.content D.dirty journal.new.disk (HasState (queued journal.old.state op))) }
-    ensures every { IsErrOf result AddFault.Stopped → EachImage D.content D.dirty journal.new.disk (λ image. HasState journal.old.state image ⊎ HasState (queued journal.old.state op) image) }
-    ensures refused { IfErr result (OpRefuses journal.old.state (area_size (length (D.content journal.old.disk))) op (journal.new ≡ journal.old)) }
-    ensures taken { OnOk result (Takes journal.old.state (area_size (length (D.content journal.old.disk))) op) }
-    ensures left { OnOk result (FallsBy 4 (D.left journal.old.disk) (D.left journal.new.disk)) }
-    ensures spent { IsErrOf result AddFault.Stopped → RanOut 4 (D.left journal.old.disk) (D.left journal.new.disk) }
-    ensures rose { IsErrOf result AddFault.Stopped → Rose (D.faults journal.old.disk) (D.faults journal.new.disk) }
-{
-    let prepared = match prepare(alloc, table, &op) {
-        Ok(prepared) => prepared,
-        Err(Memory) => return Err(AddFault::Memory),
-    };
-    match journal.add_op(alloc, &op) {
-        Ok(()) => {
-            apply(table, prepared);
-            Ok(())
-        }
-        Err(fault) => Err(fault),
-    }
-}
-
 impl<D: Disk> Session<D> {
-    /// Opens the journal of the disk of the device with this number, and makes the folder's one revision known where no
-    /// operation waits.
-    pub fn open(alloc: Global, number: u16, disk: D) -> Result<Session<D>, (D, OpenFault)>
-        requires sized { IsSized (length (D.content disk)) }
-        requires numbered { 1 ≤ number }
-        ensures begins { IfOk result (λ session. Begins D.Disk number disk session) }
-        ensures fails { IfErr result (λ e. Fails D.Disk number disk e.0 e.1) }
-        ensures size { IfErr result (λ e. length (D.content e.0) ≡ length (D.content disk)) }
-        ensures content { IfErr result (λ e. e.1 ≢ OpenFault.Stopped → D.content e.0 ≡ D.content disk) }
-    {
-        let journal = match Journal::open(alloc, disk) {
-            Ok(journal) => journal,
-            Err((disk, fault)) => return Err((disk, OpenFault::from(fault))),
-        };
-        let table = match fold(alloc, number, journal.queue()) {
-            Ok(table) => table,
-            Err(FoldFault::Foreign) => {
-                let known = journal.known();
-                return Err((journal.finish(), OpenFault::Foreign { known }));
-            }
-            Err(FoldFault::Memory) => return Err((journal.finish(), OpenFault::Memory)),
-        };
-        match catch_up(journal) {
-            Ok(journal) => Ok(Session { journal, table }),
-            Err(disk) => Err((disk, OpenFault::Stopped)),
-        }
-    }
-
-    /// The number of queued operations.
-    pub fn queue_len(&self) -> u32
-        ensures { result ≡ length self.now.journal.state.queue }
-    {
-        let _last = self.journal.last();
-        self.journal.queue().len() as u32
-    }
-
-    /// What is told of the journal. Nothing is in flight.
-    pub fn status(&self) -> Status
-        ensures { result ≡ status_of self.now.journal.state }
-    {
-        Status {
-            at: self.journal.known(),
-            queue: self.queue_len(),
-            last: self.journal.last(),
-            branched: self.journal.branched(),
-            flight: false,
-        }
-    }
-
-    /// Does a file call of the device with this number at this moment: its operation stands in the journal and changes the
-    /// tree before it is acknowledged.
-    pub fn call(
-        &mut self,
-        alloc: Global,
-        number: u16,
-        request: &Request,
-        moment: Moment,
-    ) -> Result<Called, Refusal>
-        requires numbered { 1 ≤ number }
-        requires running { IsRunning D.Disk number self.old }
-        ensures does { CallDoes D.Disk number self.old request.now moment self.new result }
-        ensures running { UnlessStopped result (IsRunning D.Disk number self.new) }
-    {
-        if self.journal.last() == u32::MAX {
-            return self.call_without_seq(alloc, number, request, moment);
-        }
-        let seq = self.journal.last() + 1;
-        self.table.is_well_formed();
-        match plan(alloc, &self.table, request, number, seq, moment) {
-            Err(fault) => Err(Refusal::from(fault)),
-            Ok(Planned::Same) => Ok(Called::Same),
-            Ok(Planned::Made(op)) => match queue_op(alloc, &mut self.journal, &mut self.table, op) {
-                Ok(()) => Ok(Called::Done { seq }),
-                Err(fault) => Err(Refusal::from(fault)),
-            },
-        }
-    }
-
-    // A file call where no seq is left: what would be an operation is refused.
-    fn call_without_seq(
+    // The request of an operation that the base table has already, and its flight.
+    fn request<S: Sealer, H: BlockHash>(
         &self,
         alloc: Global,
-        number: u16,
-        request: &Request,
-        moment: Moment,
-    ) -> Result<Called, Refusal>
-        requires spent { last_seq self.now.journal.state ≡ 4294967295 }
-        ensures { CallDoes D.Disk number self.now request.now moment self.now result }
+        op: Op,
+        secret: &Key,
+    ) -> Result<(Picked, Flight), PickFault>
+        requires known { 1 ≤ self.now.journal.state.known }
+        requires proper { IsProper op }
+        requires generation { (1 ≤ self.now.generation) × (self.now.generation ≤ 64) }
+        requires keyed { IsSome (key_at self.now.ring self.now.generation) }
+        ensures made { IfOk result (λ made. IsMade S.sealed S.signed H.hashed secret.now (inside self.now) op made.0 (aloft_of made.1)) }
+        ensures memory { OnErr result (result ≡ Err fault.Memory) }
     {
-        let seq = self.journal.last();
-        match plan(alloc, &self.table, request, number, seq, moment) {
-            Err(fault) => Err(Refusal::from(fault)),
-            Ok(Planned::Same) => Ok(Called::Same),
-            Ok(Planned::Made(_)) => Err(Refusal::Spent),
+        let seq = op.seq;
+        let Some(number) = self.journal.known().checked_add(1) else {
+            return Err(PickFault::Memory);
+        };
+        let Some(key) = self.ring.key(self.generation) else {
+            unreachable!()
+        };
+        let head = self.journal.known_hash();
+        let made = match step_request::<S, H>(
+            alloc,
+            &self.base,
+            &self.pointers,
+            op,
+            number,
+            head,
+            secret,
+            self.generation,
+            key,
+        ) {
+            Ok(made) => made,
+            Err(Memory) => return Err(PickFault::Memory),
+        };
+        let StepMade { request, pointers } = made;
+        let picked = Picked {
+            seq,
+            number,
+            request,
+        };
+        let flight = Flight {
+            first: seq,
+            count: 1,
+            number,
+            pointers,
+        };
+        Ok((picked, flight))
+    }
+
+    /// The request that lands the first operation of the queue, which is in flight then.
+    pub fn pick<S: Sealer, H: BlockHash>(
+        &mut self,
+        alloc: Global,
+        secret: &Key,
+    ) -> Result<Picked, PickFault>
+        requires running { IsRunning (inside self.old) }
+        ensures does { PickDoes S.sealed S.signed H.hashed secret.now (inside self.old) (inside self.new) result }
+        ensures running { IsRunning (inside self.new) }
+        ensures owned { (d : ℕ) → IsOwned d (inside self.old) → IsOwned d (inside self.new) }
+        ensures journal { self.new.journal ≡ self.old.journal }
+    {
+        if self.aloft.is_some() {
+            return Err(PickFault::InFlight);
+        }
+        if self.journal.branched() {
+            return Err(PickFault::Branched);
+        }
+        let op = first_of(self.journal.queue())?;
+        match go_ahead(
+            alloc,
+            &mut self.base,
+            &mut self.pointers,
+            &mut self.ahead,
+            &op,
+        ) {
+            Ok(()) => {}
+            Err(Memory) => return Err(PickFault::Memory),
+        }
+        let (picked, flight) = self.request::<S, H>(alloc, op, secret)?;
+        self.aloft = Some(flight);
+        Ok(picked)
+    }
+
+    /// Makes a revision known that was read, where no operation waits. Once the disk has stopped, the journal has to be
+    /// opened again.
+    pub fn know(&mut self, head: Head) -> Result<(), Stopped>
+        requires running { IsRunning (inside self.old) }
+        requires opened { self.old.journal.is_open ≡ true }
+        requires flushed { self.old.journal.state.queue ≡ [] }
+        requires later { self.old.journal.state.known ≤ head.number }
+        requires readable { IsReadable (read_of head) }
+        requires same { head.shown.tree ≡ head.base.tree }
+        ensures session { OnOk result (inside self.new ≡ with_head (inside self.old) (read_of head) head.role) }
+        ensures running { OnOk result (IsRunning (inside self.new)) }
+        ensures opened { OnOk result (self.new.journal.is_open ≡ true) }
+        ensures writes { OnOk result (Writes (headed self.old.journal.state (read_of head)) (platter D.Disk self.old.journal.disk) (platter D.Disk self.new.journal.disk)) }
+        ensures stops { OnErr result (Stops self.old.journal.state (headed self.old.journal.state (read_of head)) (platter D.Disk self.old.journal.disk) (platter D.Disk self.new.journal.disk)) }
+        ensures rose { OnErr result (Rose (D.faults self.old.journal.disk) (D.faults self.new.journal.disk)) }
+    {
+        let number = head.number;
+        let hash = head.hash;
+        match self.journal.note(&Note::Head { number, hash }) {
+            Ok(()) => {}
+            Err(_) => return Err(Stopped),
+        }
+        self.base = head.base;
+        self.ahead = 0;
+        self.shown = head.shown;
+        self.pointers = head.pointers;
+        self.ring = head.ring;
+        self.generation = head.generation;
+        self.role = head.role;
+        Ok(())
+    }
+
+    /// Makes the folder's last revision known, where no operation waits. Once the disk has stopped, the journal has to be
+    /// opened again.
+    pub fn pull<S: Sealer, H: BlockHash>(
+        &mut self,
+        alloc: Global,
+        folder: &Folder<S, H>,
+        d: u16,
+        secret: &Key,
+    ) -> Result<u32, PullFault>
+        requires running { IsRunning (inside self.old) }
+        requires opened { self.old.journal.is_open ≡ true }
+        requires numbered { 1 ≤ d }
+        ensures does { PullDoes S.sealed S.signed H.hashed (held folder.now) d secret.now (inside self.old) (platter D.Disk self.old.journal.disk) (inside self.new) (platter D.Disk self.new.journal.disk) result }
+        ensures running { UnlessPullStopped result (IsRunning (inside self.new)) }
+        ensures owned { UnlessPullStopped result (IsOwned d (inside self.old) → IsOwned d (inside self.new)) }
+        ensures size { length (D.content self.new.journal.disk) ≡ length (D.content self.old.journal.disk) }
+        ensures opened { UnlessPullStopped result (self.new.journal.is_open ≡ true) }
+        ensures rose { result ≡ Err pull.Stopped → Rose (D.faults self.old.journal.disk) (D.faults self.new.journal.disk) }
+    {
+        let known = self.journal.known();
+        let lent = match folder.fetch(d, known) {
+            Ok(lent) => lent,
+            Err(_) => return Err(PullFault::NotMember),
+        };
+        if is_waiting(self.journal.queue()) {
+            return Err(PullFault::Unflushed);
+        }
+        if lent.is_empty() {
+            return Ok(known);
+        }
+        let number = folder.length();
+        let head = match read_next(
+            alloc,
+            folder,
+            d,
+            secret,
+            &self.ring,
+            self.generation,
+            known,
+            self.journal.last(),
+            lent,
+        ) {
+            Ok(head) => head,
+            Err(ReadFault::BadFolder) => return Err(PullFault::BadFolder { number }),
+            Err(ReadFault::Memory) => return Err(PullFault::Memory),
+        };
+        let number = head.number;
+        match self.know(head) {
+            Ok(()) => Ok(number),
+            Err(_) => Err(PullFault::Stopped),
+        }
+    }
+
+    // The flight landed in the revision with this hash: its operation leaves the queue.
+    fn land(&mut self, flight: Flight, hash: Hash) -> Result<Noted, NoteFault>
+        requires opened { self.old.journal.is_open ≡ true }
+        requires allowed { allows self.old.journal.state (entry.Landed flight.number hash) ≡ true }
+        ensures answer { IfOk result (λ answer. answer ≡ noted.Landed flight.number) }
+        ensures fault { OnErr result (result ≡ Err stop.Stopped) }
+        ensures session { OnOk result (inside self.new ≡ with_landed (inside self.old) (aloft_of flight) hash) }
+        ensures opened { OnOk result (self.new.journal.is_open ≡ true) }
+        ensures writes { OnOk result (Writes (landed self.old.journal.state (aloft_of flight) hash) (platter D.Disk self.old.journal.disk) (platter D.Disk self.new.journal.disk)) }
+        ensures stops { OnErr result (Stops self.old.journal.state (landed self.old.journal.state (aloft_of flight) hash) (platter D.Disk self.old.journal.disk) (platter D.Disk self.new.journal.disk)) }
+        ensures rose { OnErr result (Rose (D.faults self.old.journal.disk) (D.faults self.new.journal.disk)) }
+    {
+        let number = flight.number;
+        match self.journal.note(&Note::Landed { number, hash }) {
+            Ok(()) => {}
+            Err(_) => return Err(NoteFault::Stopped),
+        }
+        self.pointers = flight.pointers;
+        self.ahead = 0;
+        self.aloft = None;
+        Ok(Noted::Landed { number })
+    }
+
+    // Another revision came first: the queue is a branch.
+    fn part(&mut self) -> Result<Noted, NoteFault>
+        requires opened { self.old.journal.is_open ≡ true }
+        requires allowed { allows self.old.journal.state entry.Branched ≡ true }
+        ensures answer { IfOk result (λ answer. answer ≡ noted.Branched self.old.journal.state.known) }
+        ensures fault { OnErr result (result ≡ Err stop.Stopped) }
+        ensures session { OnOk result (inside self.new ≡ record (inside self.old) { journal = parted self.old.journal.state }) }
+        ensures opened { OnOk result (self.new.journal.is_open ≡ true) }
+        ensures writes { OnOk result (Writes (parted self.old.journal.state) (platter D.Disk self.old.journal.disk) (platter D.Disk self.new.journal.disk)) }
+        ensures stops { OnErr result (Stops self.old.journal.state (parted self.old.journal.state) (platter D.Disk self.old.journal.disk) (platter D.Disk self.new.journal.disk)) }
+        ensures rose { OnErr result (Rose (D.faults self.old.journal.disk) (D.faults self.new.journal.disk)) }
+    {
+        let at = self.journal.known();
+        match self.journal.note(&Note::Branched) {
+            Ok(()) => {}
+            Err(_) => return Err(NoteFault::Stopped),
+        }
+        Ok(Noted::Branched { at })
+    }
+
+    /// Ends the flight with the answer to its put: what landed leaves the queue, and what came late is a branch. Once the
+    /// disk has stopped, the journal has to be opened again.
+    pub fn note(&mut self, answer: &PutAnswer) -> Result<Noted, NoteFault>
+        requires running { IsRunning (inside self.old) }
+        requires opened { self.old.journal.is_open ≡ true }
+        ensures does { NoteDoes (inside self.old) (platter D.Disk self.old.journal.disk) answer.now (inside self.new) (platter D.Disk self.new.journal.disk) result }
+        ensures running { UnlessStopped result (IsRunning (inside self.new)) }
+        ensures owned { UnlessStopped result ((d : ℕ) → IsOwned d (inside self.old) → IsOwned d (inside self.new)) }
+        ensures size { length (D.content self.new.journal.disk) ≡ length (D.content self.old.journal.disk) }
+        ensures opened { UnlessStopped result (self.new.journal.is_open ≡ true) }
+        ensures rose { result ≡ Err stop.Stopped → Rose (D.faults self.old.journal.disk) (D.faults self.new.journal.disk) }
+    {
+        let Some(flight) = self.aloft.take() else {
+            return Err(NoteFault::NoFlight);
+        };
+        let refusal = match answer.number {
+            Ok(_) => return self.land(flight, answer.hash),
+            Err(refusal) => refusal,
+        };
+        match refusal {
+            PutRefusal::Stale { .. } => self.part(),
+            _ => Ok(Noted::Kept),
         }
     }
 }

@@ -17,7 +17,7 @@ use Rattle.kb_script.specs.Answers.{with_statement, verb_answer, line_answer, wh
 fits : Bool → Bool → Bool → Option Verb → Known → List (List ℕ) → Why → Bool
 fits text comment later o k ws why.Text = not text
 fits text comment later o k ws why.Word = not comment && (is_none o && not later)
-fits text comment later o k ws why.Later = not comment && option_map_or (λ v. applies k v ws why.Later) o later
+fits text comment later o k ws why.Later = not comment && (is_none o && later)
 fits text comment later o k ws r = not comment && option_map_or (λ v. applies k v ws r) o false
 
 with_statement_is : (o : Option Why) (s : Statement) → with_statement (option_map_or (λ r. Err r) o (Ok s)) ≡ option_map_or (λ r. Err r) o (Ok (Some s))
@@ -29,7 +29,7 @@ verb_read later k None ws = Err (cond later why.Later why.Word)
 verb_read later k (Some v) ws = with_statement (answer k v ws)
 
 in_table : (text comment later : Bool) (o : Option Verb) (k : Known) (ws : List (List ℕ))
-    → cond text (cond comment (Ok None) (verb_read later k o ws)) (Err why.Text) ≡ option_map_or (λ r. Err r) (find (fits text comment later o k ws) (why.Text ∷ why.Word ∷ reasons)) (Ok (cond comment None (option_map_or (λ v. Some (said k v ws)) o None)))
+    → cond text (cond comment (Ok None) (verb_read later k o ws)) (Err why.Text) ≡ option_map_or (λ r. Err r) (find (fits text comment later o k ws) (why.Text ∷ why.Word ∷ why.Later ∷ reasons)) (Ok (cond comment None (option_map_or (λ v. Some (said k v ws)) o None)))
 unfolding fits
 in_table false comment later o k ws = refl
 in_table true true later o k ws = refl

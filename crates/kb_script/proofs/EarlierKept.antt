@@ -3,19 +3,29 @@ use Rattle.std.proofs.Common.{◌≡◌, ℕ, Bool, List, [], ◌∷◌, ◌++�
 use Rattle.std.specs.List.{list_any}
 use Rattle.std.proofs.lemmas.List.{reverse-append}
 use Rattle.kb_script.specs.declared.statements.Statement.{Statement}
-use Rattle.kb_script.specs.declared.statements.Statement.TheVariants.{Device, Found, At, Open, Status, Fuse, Power, File, Look}
+use Rattle.kb_script.specs.declared.statements.Statement.TheVariants.{Seed, Device, Found, Grant, Revoke, At, Open, Pick, Land, Note, Flush, Drain, Pull, Status, Fuse, Power, Folder, File, Look}
 use Rattle.kb_script.specs.Fit.{IsFit, AllFit, AllFitFrom, declared_after, found_after}
 use Rattle.kb_script.specs.Seen.{Known}
 use Rattle.kb_script.specs.Earlier.{known_of, after, declared, is_found, AllFitBack}
 
 pub known_step : (earlier : List Statement) (s : Statement) → after (known_of earlier) s ≡ known_of (s ∷ earlier)
+known_step earlier (Seed k) = refl
 known_step earlier (Device name size) = refl
 known_step earlier (Found d) = refl
+known_step earlier (Grant by d r) = refl
+known_step earlier (Revoke by d) = refl
 known_step earlier (At m) = refl
 known_step earlier (Open d) = refl
+known_step earlier (Pick d) = refl
+known_step earlier (Land d) = refl
+known_step earlier (Note d) = refl
+known_step earlier (Flush d) = refl
+known_step earlier (Drain d) = refl
+known_step earlier (Pull d) = refl
 known_step earlier (Status d) = refl
 known_step earlier (Fuse d n) = refl
 known_step earlier (Power d p) = refl
+known_step earlier Folder = refl
 known_step earlier (File d r) = refl
 known_step earlier (Look d r) = refl
 
@@ -34,24 +44,44 @@ fit_kept old new k n s was is fits fit pushed =
 -- ---- from latest first to their order
 
 counted : (s : Statement) (earlier : List Statement) → length (declared (s ∷ earlier)) ≡ declared_after (length (declared earlier)) s
+counted (Seed k) earlier = refl
 counted (Device name size) earlier = length-append (declared earlier) (name ∷ [])
 counted (Found d) earlier = refl
+counted (Grant by d r) earlier = refl
+counted (Revoke by d) earlier = refl
 counted (At m) earlier = refl
 counted (Open d) earlier = refl
+counted (Pick d) earlier = refl
+counted (Land d) earlier = refl
+counted (Note d) earlier = refl
+counted (Flush d) earlier = refl
+counted (Drain d) earlier = refl
+counted (Pull d) earlier = refl
 counted (Status d) earlier = refl
 counted (Fuse d n) earlier = refl
 counted (Power d p) earlier = refl
+counted Folder earlier = refl
 counted (File d r) earlier = refl
 counted (Look d r) earlier = refl
 
 founded : (s : Statement) (earlier : List Statement) → list_any is_found (s ∷ earlier) ≡ found_after (list_any is_found earlier) s
+founded (Seed k) earlier = refl
 founded (Device name size) earlier = refl
 founded (Found d) earlier = refl
+founded (Grant by d r) earlier = refl
+founded (Revoke by d) earlier = refl
 founded (At m) earlier = refl
 founded (Open d) earlier = refl
+founded (Pick d) earlier = refl
+founded (Land d) earlier = refl
+founded (Note d) earlier = refl
+founded (Flush d) earlier = refl
+founded (Drain d) earlier = refl
+founded (Pull d) earlier = refl
 founded (Status d) earlier = refl
 founded (Fuse d n) earlier = refl
 founded (Power d p) earlier = refl
+founded Folder earlier = refl
 founded (File d r) earlier = refl
 founded (Look d r) earlier = refl
 

@@ -15,7 +15,7 @@ use Rattle.kb_script.specs.Reasons.{answer, applies, reasons, said}
 abbrev pub applies_to_words : Bool → Known → Option Verb → List (List ℕ) → Why → Bool
 applies_to_words live k v ws why.Text = false
 applies_to_words live k v ws why.Word = is_none v && not (is_later_word live (word ws 0))
-applies_to_words live k v ws why.Later = option_map_or (λ v. applies k v ws why.Later) v (is_later_word live (word ws 0))
+applies_to_words live k v ws why.Later = is_none v && is_later_word live (word ws 0)
 applies_to_words live k v ws r = option_map_or (λ v. applies k v ws r) v false
 
 -- whether a reason applies to a line: Text to each line, the others to one with a statement's words
@@ -25,7 +25,7 @@ applies_to live k line r = not (is_comment (words_of line)) && applies_to_words 
 
 -- the first reason of the list that applies
 abbrev pub why_bad : Bool → Known → List ℕ → Option Why
-why_bad live k line = find (applies_to live k line) (why.Text ∷ why.Word ∷ reasons)
+why_bad live k line = find (applies_to live k line) (why.Text ∷ why.Word ∷ why.Later ∷ reasons)
 
 -- what a line says that no reason applies to
 abbrev pub said_by : Known → List ℕ → Option Statement

@@ -16,17 +16,21 @@ abbrev pub is_found : Statement → Bool
 is_found (Found device) = true
 is_found s = false
 
+abbrev pub has_begun : List Statement → Bool
+has_begun [] = false
+has_begun (s ∷ earlier) = true
+
 abbrev pub known_of : List Statement → Known
-known_of earlier = record { devices = declared earlier; found = list_any is_found earlier }
+known_of earlier = record { devices = declared earlier; found = list_any is_found earlier; begun = has_begun earlier }
 
 -- the same, one statement at a time
 abbrev pub start : Known
-start = record { devices = []; found = false }
+start = record { devices = []; found = false; begun = false }
 
 abbrev pub after : Known → Statement → Known
-after k (Device name size) = record { devices = k.devices ++ name ∷ []; found = k.found }
-after k (Found device) = record { devices = k.devices; found = true }
-after k s = k
+after k (Device name size) = record { devices = k.devices ++ name ∷ []; found = k.found; begun = true }
+after k (Found device) = record { devices = k.devices; found = true; begun = true }
+after k s = record { devices = k.devices; found = k.found; begun = true }
 
 -- each statement fits behind those before it
 abbrev pub AllFitBack : List Statement → Type 0

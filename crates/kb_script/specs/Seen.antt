@@ -1,21 +1,21 @@
 -- What the lines before say to a line.
-use Rattle.std.specs.Prelude.{ℕ, ◌+◌, Bool, true, false, not, ◌==◌, List, length, Option, Some, None, if◌then◌else◌, Result, Ok, Err}
+use Rattle.std.specs.Prelude.{ℕ, ◌+◌, Bool, true, not, nat_le, List, length, Option, Some, None, if◌then◌else◌, Result, Ok, Err}
 use Rattle.std.specs.List.{list_any, position_or_len}
 use Rattle.std.specs.Str.{bytes_eq}
 use Rattle.kb_script.specs.declared.faults.Why.{Why}
 use Rattle.kb_script.specs.declared.faults.Why.TheVariants as why
 use Rattle.kb_script.specs.declared.state.Seen.{Seen}
 use Rattle.kb_script.specs.declared.verbs.Verb.{Verb}
-use Rattle.kb_script.specs.declared.verbs.Verb.TheVariants as verb
-use Rattle.kb_script.specs.Table.{place, Place, Anywhere, Once, Behind}
+use Rattle.kb_script.specs.Table.{most_devices, place, Place, Anywhere, First, WithRoom, Once, Behind}
 
--- the declared names in their order, and whether `found` came
+-- the declared names in their order, and whether `found` and whether any statement came
 pub record Known : Type 0 where
   pub devices : List (List ℕ)
   pub found : Bool
+  pub begun : Bool
 
 abbrev pub known : Seen → Known
-known s = record { devices = s.devices.items; found = s.found }
+known s = record { devices = s.devices.items; found = s.found; begun = s.begun }
 
 -- where a name stands among those declared
 abbrev pub place_of : List (List ℕ) → List ℕ → ℕ
@@ -34,13 +34,10 @@ named k w = if is_declared k w then Some (number_of k w) else None
 abbrev pub device_answer : Known → List ℕ → Result ℕ Why
 device_answer k w = if is_declared k w then Ok (number_of k w) else Err why.Device
 
--- a second device isn't built yet
-abbrev pub is_second : Known → Verb → Bool
-is_second k verb.Device = not (length k.devices == 0)
-is_second k v = false
-
 abbrev pub stands : Known → Place → Bool
 stands k Anywhere = true
+stands k First = not k.begun
+stands k WithRoom = nat_le (length k.devices + 1) most_devices
 stands k Once = not k.found
 stands k Behind = k.found
 

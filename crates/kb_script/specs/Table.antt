@@ -4,16 +4,26 @@ use Rattle.std.specs.List.{list_any}
 use Rattle.std.specs.Str.{bytes_eq}
 use Rattle.kb_name.specs.Moments.{last_second}
 use Rattle.kb_script.specs.declared.verbs.Verb.{Verb}
-use Rattle.kb_script.specs.declared.verbs.Verb.TheVariants.{Device, Found, At, Open, Status, Fuse, Power, Mkdir, Mkfile, Link, Remove, Move, Write, Cut, Chmod, Touch, Cat, Ls, Tree, Stat}
+use Rattle.kb_script.specs.declared.verbs.Verb.TheVariants.{Seed, Device, Found, Grant, Revoke, At, Open, Pick, Land, Note, Flush, Drain, Pull, Status, Fuse, Power, Folder, Mkdir, Mkfile, Link, Remove, Move, Write, Cut, Chmod, Touch, Cat, Ls, Tree, Stat}
 
 abbrev pub spelling : Verb → List ℕ
+spelling Seed = codes "seed"
 spelling Device = codes "device"
 spelling Found = codes "found"
+spelling Grant = codes "grant"
+spelling Revoke = codes "revoke"
 spelling At = codes "at"
 spelling Open = codes "open"
+spelling Pick = codes "pick"
+spelling Land = codes "land"
+spelling Note = codes "note"
+spelling Flush = codes "flush"
+spelling Drain = codes "drain"
+spelling Pull = codes "pull"
 spelling Status = codes "status"
 spelling Fuse = codes "fuse"
 spelling Power = codes "power"
+spelling Folder = codes "folder"
 spelling Mkdir = codes "mkdir"
 spelling Mkfile = codes "mkfile"
 spelling Link = codes "link"
@@ -29,7 +39,7 @@ spelling Tree = codes "tree"
 spelling Stat = codes "stat"
 
 abbrev pub verbs : List Verb
-verbs = Device ∷ Found ∷ At ∷ Open ∷ Status ∷ Fuse ∷ Power ∷ Mkdir ∷ Mkfile ∷ Link ∷ Remove ∷ Move ∷ Write ∷ Cut ∷ Chmod ∷ Touch ∷ Cat ∷ Ls ∷ Tree ∷ Stat ∷ []
+verbs = Seed ∷ Device ∷ Found ∷ Grant ∷ Revoke ∷ At ∷ Open ∷ Pick ∷ Land ∷ Note ∷ Flush ∷ Drain ∷ Pull ∷ Status ∷ Fuse ∷ Power ∷ Folder ∷ Mkdir ∷ Mkfile ∷ Link ∷ Remove ∷ Move ∷ Write ∷ Cut ∷ Chmod ∷ Touch ∷ Cat ∷ Ls ∷ Tree ∷ Stat ∷ []
 
 -- the statement that a first word names
 abbrev pub verb_of : List ℕ → Option Verb
@@ -37,7 +47,7 @@ verb_of w = find (λ v. bytes_eq w (spelling v)) verbs
 
 -- the first words of statements that aren't built yet
 abbrev pub later_words : List (List ℕ)
-later_words = codes "seed" ∷ codes "grant" ∷ codes "revoke" ∷ codes "pick" ∷ codes "land" ∷ codes "note" ∷ codes "flush" ∷ codes "drain" ∷ codes "pull" ∷ codes "fetch" ∷ codes "settle" ∷ codes "resolve" ∷ codes "folder" ∷ codes "verify" ∷ []
+later_words = codes "fetch" ∷ codes "settle" ∷ codes "resolve" ∷ codes "verify" ∷ []
 
 -- those of a block, which are no words where a block may not stand
 abbrev pub block_words : List (List ℕ)
@@ -49,6 +59,7 @@ is_later_word live w = list_any (bytes_eq w) (if live then later_words ++ block_
 -- what may stand at a place behind the first word
 pub data Want : Type 0 where
   Number : (low high : ℕ) → Want
+  SeedWord : Want
   NewDevice : Want
   OldDevice : Want
   AnyPath : Want
@@ -62,15 +73,29 @@ last_u32 = 4294967295
 abbrev pub pick_words : List (List ℕ)
 pick_words = codes "old" ∷ codes "new" ∷ codes "noise" ∷ []
 
+-- what a grant makes of a device, by its word
+abbrev pub role_words : List (List ℕ)
+role_words = codes "writer" ∷ codes "reader" ∷ []
+
 -- the forms of a statement
 abbrev pub forms : Verb → List (List Want)
+forms Seed = (SeedWord ∷ []) ∷ []
 forms Device = (NewDevice ∷ Number 4096 16777216 ∷ []) ∷ []
 forms Found = (OldDevice ∷ []) ∷ []
+forms Grant = (OldDevice ∷ OldDevice ∷ OneOf role_words ∷ []) ∷ []
+forms Revoke = (OldDevice ∷ OldDevice ∷ []) ∷ []
 forms At = (Number 0 last_second ∷ []) ∷ []
 forms Open = (OldDevice ∷ []) ∷ []
+forms Pick = (OldDevice ∷ []) ∷ []
+forms Land = (OldDevice ∷ []) ∷ []
+forms Note = (OldDevice ∷ []) ∷ []
+forms Flush = (OldDevice ∷ []) ∷ []
+forms Drain = (OldDevice ∷ []) ∷ []
+forms Pull = (OldDevice ∷ []) ∷ []
 forms Status = (OldDevice ∷ []) ∷ []
 forms Fuse = (OldDevice ∷ Number 0 last_u32 ∷ []) ∷ []
 forms Power = (OldDevice ∷ OneOf pick_words ∷ []) ∷ []
+forms Folder = [] ∷ []
 forms Mkdir = (OldDevice ∷ AnyPath ∷ []) ∷ []
 forms Mkfile = (OldDevice ∷ AnyPath ∷ []) ∷ []
 forms Link = (OldDevice ∷ AnyPath ∷ DataWord ∷ []) ∷ []
@@ -85,20 +110,36 @@ forms Ls = (OldDevice ∷ AnyPath ∷ []) ∷ []
 forms Tree = (OldDevice ∷ []) ∷ []
 forms Stat = (OldDevice ∷ AnyPath ∷ []) ∷ []
 
--- where a statement may stand: anywhere, once, or behind `found`
+-- so many devices may be declared
+abbrev pub most_devices : ℕ
+most_devices = 32
+
+-- where a statement may stand: anywhere, as the first, while fewer devices are declared than may be, once, or behind `found`
 pub data Place : Type 0 where
   Anywhere : Place
+  First : Place
+  WithRoom : Place
   Once : Place
   Behind : Place
 
 abbrev pub place : Verb → Place
-place Device = Anywhere
+place Seed = First
+place Device = WithRoom
 place At = Anywhere
 place Fuse = Anywhere
 place Found = Once
+place Grant = Behind
+place Revoke = Behind
 place Open = Behind
+place Pick = Behind
+place Land = Behind
+place Note = Behind
+place Flush = Behind
+place Drain = Behind
+place Pull = Behind
 place Status = Behind
 place Power = Behind
+place Folder = Behind
 place Mkdir = Behind
 place Mkfile = Behind
 place Link = Behind

@@ -1,12 +1,13 @@
 ghost use Rattle.std.specs.Prelude.{◌≡◌};
 ghost use Rattle.kb_script.specs.Seen.{known};
-ghost use Rattle.kb_script.specs.Choices.{fresh_answer, exec_answer, pick_answer};
+ghost use Rattle.kb_script.specs.Choices.{fresh_answer, exec_answer, pick_answer, role_answer};
 ghost use Rattle.kb_script.specs.Gives.{GivesLine};
 
 use super::faults::{LineFault, Why};
 use super::standing::is_declared;
 use super::state::Seen;
 use kb_edge::Pick;
+use kb_keys::Role;
 use kb_name::{DeviceName, NameFault};
 use std::alloc::Global;
 
@@ -36,13 +37,24 @@ pub fn is_exec(word: &str) -> Result<bool, LineFault>
 }
 
 /// What a power cut leaves.
-pub fn pick(word: &str) -> Result<Pick, LineFault>
+pub fn left_by(word: &str) -> Result<Pick, LineFault>
     ensures { GivesLine (λ p. p) result (pick_answer word.now) }
 {
     match word {
         "old" => Ok(Pick::Old),
         "new" => Ok(Pick::New),
         "noise" => Ok(Pick::Noise),
+        _ => Err(LineFault::Bad(Why::Choice)),
+    }
+}
+
+/// What a grant makes of a device.
+pub fn role_of(word: &str) -> Result<Role, LineFault>
+    ensures { GivesLine (λ r. r) result (role_answer word.now) }
+{
+    match word {
+        "writer" => Ok(Role::Writer),
+        "reader" => Ok(Role::Reader),
         _ => Err(LineFault::Bad(Why::Choice)),
     }
 }

@@ -14,6 +14,7 @@ pub fn start(alloc: Global) -> Seen
     Seen {
         devices: Vec::new(alloc),
         found: false,
+        begun: false,
     }
 }
 
@@ -22,6 +23,7 @@ pub fn note(seen: &mut Seen, statement: &Statement) -> Result<(), AllocError>
     requires { IsFit (vec_len seen.old.devices) seen.old.found statement.now }
     ensures { OnOk result (known seen.new ≡ after (known seen.old) statement.now) }
 {
+    seen.begun = true;
     match statement {
         Statement::Device { name, .. } => {
             let name = name.clone()?;

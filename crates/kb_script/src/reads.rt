@@ -6,25 +6,33 @@ ghost use Rattle.kb_script.specs.Seen.{known};
 ghost use Rattle.kb_script.specs.Reasons.{answer};
 ghost use Rattle.kb_script.specs.Gives.{GivesLine};
 
-use super::choices::{fresh, is_exec, pick};
+use super::choices::{fresh, is_exec, left_by, role_of};
 use super::cuts::{count, word};
 use super::faults::{LineFault, Why};
 use super::standing::{device, in_order};
 use super::state::Seen;
 use super::statements::Statement;
-use super::values::{data, moment, number, small};
+use super::values::{data, moment, number, seed_word, small};
 use super::verbs::Verb;
 use kb_ops::{Request, Word};
 use std::alloc::Global;
 
-/// A second device isn't built yet.
+pub fn seed(seen: &Seen, words: &[&str]) -> Result<Statement, LineFault>
+    ensures value { GivesLine (λ s. s) result (answer (known seen.now) Verb.Seed (texts words.now)) }
+    ensures fit { IfOk result (λ s. IsFit (vec_len seen.now.devices) seen.now.found s) }
+{
+    if count(words) != 2 {
+        return Err(LineFault::Bad(Why::Count));
+    }
+    let seed = seed_word(word(words, 1))?;
+    in_order(seen, Verb::Seed)?;
+    Ok(Statement::Seed { seed })
+}
+
 pub fn device_line(alloc: Global, seen: &Seen, words: &[&str]) -> Result<Statement, LineFault>
     ensures value { GivesLine (λ s. s) result (answer (known seen.now) Verb.Device (texts words.now)) }
     ensures fit { IfOk result (λ s. IsFit (vec_len seen.now.devices) seen.now.found s) }
 {
-    if !seen.devices.is_empty() {
-        return Err(LineFault::Bad(Why::Later));
-    }
     if count(words) != 3 {
         return Err(LineFault::Bad(Why::Count));
     }
@@ -44,6 +52,33 @@ pub fn found(seen: &Seen, words: &[&str]) -> Result<Statement, LineFault>
     let device = device(seen, word(words, 1))?;
     in_order(seen, Verb::Found)?;
     Ok(Statement::Found { device })
+}
+
+pub fn grant(seen: &Seen, words: &[&str]) -> Result<Statement, LineFault>
+    ensures value { GivesLine (λ s. s) result (answer (known seen.now) Verb.Grant (texts words.now)) }
+    ensures fit { IfOk result (λ s. IsFit (vec_len seen.now.devices) seen.now.found s) }
+{
+    if count(words) != 4 {
+        return Err(LineFault::Bad(Why::Count));
+    }
+    let role = role_of(word(words, 3))?;
+    let by = device(seen, word(words, 1))?;
+    let device = device(seen, word(words, 2))?;
+    in_order(seen, Verb::Grant)?;
+    Ok(Statement::Grant { by, device, role })
+}
+
+pub fn revoke(seen: &Seen, words: &[&str]) -> Result<Statement, LineFault>
+    ensures value { GivesLine (λ s. s) result (answer (known seen.now) Verb.Revoke (texts words.now)) }
+    ensures fit { IfOk result (λ s. IsFit (vec_len seen.now.devices) seen.now.found s) }
+{
+    if count(words) != 3 {
+        return Err(LineFault::Bad(Why::Count));
+    }
+    let by = device(seen, word(words, 1))?;
+    let device = device(seen, word(words, 2))?;
+    in_order(seen, Verb::Revoke)?;
+    Ok(Statement::Revoke { by, device })
 }
 
 pub fn at(seen: &Seen, words: &[&str]) -> Result<Statement, LineFault>
@@ -68,6 +103,78 @@ pub fn open(seen: &Seen, words: &[&str]) -> Result<Statement, LineFault>
     let device = device(seen, word(words, 1))?;
     in_order(seen, Verb::Open)?;
     Ok(Statement::Open { device })
+}
+
+pub fn pick(seen: &Seen, words: &[&str]) -> Result<Statement, LineFault>
+    ensures value { GivesLine (λ s. s) result (answer (known seen.now) Verb.Pick (texts words.now)) }
+    ensures fit { IfOk result (λ s. IsFit (vec_len seen.now.devices) seen.now.found s) }
+{
+    if count(words) != 2 {
+        return Err(LineFault::Bad(Why::Count));
+    }
+    let device = device(seen, word(words, 1))?;
+    in_order(seen, Verb::Pick)?;
+    Ok(Statement::Pick { device })
+}
+
+pub fn land(seen: &Seen, words: &[&str]) -> Result<Statement, LineFault>
+    ensures value { GivesLine (λ s. s) result (answer (known seen.now) Verb.Land (texts words.now)) }
+    ensures fit { IfOk result (λ s. IsFit (vec_len seen.now.devices) seen.now.found s) }
+{
+    if count(words) != 2 {
+        return Err(LineFault::Bad(Why::Count));
+    }
+    let device = device(seen, word(words, 1))?;
+    in_order(seen, Verb::Land)?;
+    Ok(Statement::Land { device })
+}
+
+pub fn note(seen: &Seen, words: &[&str]) -> Result<Statement, LineFault>
+    ensures value { GivesLine (λ s. s) result (answer (known seen.now) Verb.Note (texts words.now)) }
+    ensures fit { IfOk result (λ s. IsFit (vec_len seen.now.devices) seen.now.found s) }
+{
+    if count(words) != 2 {
+        return Err(LineFault::Bad(Why::Count));
+    }
+    let device = device(seen, word(words, 1))?;
+    in_order(seen, Verb::Note)?;
+    Ok(Statement::Note { device })
+}
+
+pub fn flush(seen: &Seen, words: &[&str]) -> Result<Statement, LineFault>
+    ensures value { GivesLine (λ s. s) result (answer (known seen.now) Verb.Flush (texts words.now)) }
+    ensures fit { IfOk result (λ s. IsFit (vec_len seen.now.devices) seen.now.found s) }
+{
+    if count(words) != 2 {
+        return Err(LineFault::Bad(Why::Count));
+    }
+    let device = device(seen, word(words, 1))?;
+    in_order(seen, Verb::Flush)?;
+    Ok(Statement::Flush { device })
+}
+
+pub fn drain(seen: &Seen, words: &[&str]) -> Result<Statement, LineFault>
+    ensures value { GivesLine (λ s. s) result (answer (known seen.now) Verb.Drain (texts words.now)) }
+    ensures fit { IfOk result (λ s. IsFit (vec_len seen.now.devices) seen.now.found s) }
+{
+    if count(words) != 2 {
+        return Err(LineFault::Bad(Why::Count));
+    }
+    let device = device(seen, word(words, 1))?;
+    in_order(seen, Verb::Drain)?;
+    Ok(Statement::Drain { device })
+}
+
+pub fn pull(seen: &Seen, words: &[&str]) -> Result<Statement, LineFault>
+    ensures value { GivesLine (λ s. s) result (answer (known seen.now) Verb.Pull (texts words.now)) }
+    ensures fit { IfOk result (λ s. IsFit (vec_len seen.now.devices) seen.now.found s) }
+{
+    if count(words) != 2 {
+        return Err(LineFault::Bad(Why::Count));
+    }
+    let device = device(seen, word(words, 1))?;
+    in_order(seen, Verb::Pull)?;
+    Ok(Statement::Pull { device })
 }
 
 pub fn status(seen: &Seen, words: &[&str]) -> Result<Statement, LineFault>
@@ -102,10 +209,21 @@ pub fn power(seen: &Seen, words: &[&str]) -> Result<Statement, LineFault>
     if count(words) != 3 {
         return Err(LineFault::Bad(Why::Count));
     }
-    let pick = pick(word(words, 2))?;
+    let pick = left_by(word(words, 2))?;
     let device = device(seen, word(words, 1))?;
     in_order(seen, Verb::Power)?;
     Ok(Statement::Power { device, pick })
+}
+
+pub fn folder(seen: &Seen, words: &[&str]) -> Result<Statement, LineFault>
+    ensures value { GivesLine (λ s. s) result (answer (known seen.now) Verb.Folder (texts words.now)) }
+    ensures fit { IfOk result (λ s. IsFit (vec_len seen.now.devices) seen.now.found s) }
+{
+    if count(words) != 1 {
+        return Err(LineFault::Bad(Why::Count));
+    }
+    in_order(seen, Verb::Folder)?;
+    Ok(Statement::Folder)
 }
 
 pub fn mkdir(alloc: Global, seen: &Seen, words: &[&str]) -> Result<Statement, LineFault>

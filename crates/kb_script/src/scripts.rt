@@ -26,13 +26,23 @@ fn statement(alloc: Global, seen: &Seen, verb: Verb, words: &[&str]) -> Result<S
     ensures fit { IfOk result (λ s. IsFit (vec_len seen.now.devices) seen.now.found s) }
 {
     match verb {
+        Verb::Seed => reads::seed(seen, words),
         Verb::Device => reads::device_line(alloc, seen, words),
         Verb::Found => reads::found(seen, words),
+        Verb::Grant => reads::grant(seen, words),
+        Verb::Revoke => reads::revoke(seen, words),
         Verb::At => reads::at(seen, words),
         Verb::Open => reads::open(seen, words),
+        Verb::Pick => reads::pick(seen, words),
+        Verb::Land => reads::land(seen, words),
+        Verb::Note => reads::note(seen, words),
+        Verb::Flush => reads::flush(seen, words),
+        Verb::Drain => reads::drain(seen, words),
+        Verb::Pull => reads::pull(seen, words),
         Verb::Status => reads::status(seen, words),
         Verb::Fuse => reads::fuse(seen, words),
         Verb::Power => reads::power(seen, words),
+        Verb::Folder => reads::folder(seen, words),
         Verb::Mkdir => reads::mkdir(alloc, seen, words),
         Verb::Mkfile => reads::mkfile(alloc, seen, words),
         Verb::Link => reads::link(alloc, seen, words),

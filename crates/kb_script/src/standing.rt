@@ -56,7 +56,9 @@ fn may_stand(seen: &Seen, verb: Verb) -> bool
     ensures { result ≡ may_stand (known seen.now) verb }
 {
     match verb {
-        Verb::Device | Verb::At | Verb::Fuse => true,
+        Verb::At | Verb::Fuse => true,
+        Verb::Device => seen.devices.len() < 32,
+        Verb::Seed => !seen.begun,
         Verb::Found => !seen.found,
         _ => seen.found,
     }

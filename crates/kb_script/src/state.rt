@@ -1,4 +1,4 @@
-ghost use Rattle.std.specs.Prelude.{◌≤◌, vec_len};
+ghost use Rattle.std.specs.Prelude.{◌≡◌, ◌≤◌, false, vec_len};
 
 use kb_name::DeviceName;
 
@@ -7,5 +7,8 @@ use kb_name::DeviceName;
 pub struct Seen {
     pub devices: Vec<DeviceName>,
     pub found: bool,
-    pub ghost few: { vec_len devices ≤ 1 },
+    /// A statement came.
+    pub begun: bool,
+    pub ghost none: { begun ≡ false → vec_len devices ≡ 0 },
+    pub ghost few: { vec_len devices ≤ 32 },
 }

@@ -1,22 +1,43 @@
 use kb_edge::Pick;
+use kb_keys::Role;
 use kb_name::{DeviceName, Moment};
 use kb_ops::{Request, Show};
 
 /// What a line says. Devices are numbered from 1 in the order in which they are declared.
 #[derive(Debug, Drop)]
 pub enum Statement {
+    /// Sets the seed of all keys.
+    Seed { seed: [u8; 32] },
     /// Declares a device with a disk of so many bytes, 4,096 to 16,777,216.
     Device { name: DeviceName, size: u32 },
     /// Makes the folder's first revision.
     Found { device: u16 },
+    /// Makes a device a member, in another's name.
+    Grant { by: u16, device: u16, role: Role },
+    /// Takes a member's role and its keys away, in another's name.
+    Revoke { by: u16, device: u16 },
     /// Sets the moment of what follows.
     At { moment: Moment },
     Open { device: u16 },
+    /// Makes the request for the first operation that is queued; it waits.
+    Pick { device: u16 },
+    /// Puts the request that waits; its answer waits.
+    Land { device: u16 },
+    /// Notes the answer that waits.
+    Note { device: u16 },
+    /// Picks, lands and notes.
+    Flush { device: u16 },
+    /// Flushes until a pick, a put or a note is refused.
+    Drain { device: u16 },
+    /// Makes the folder's last revision the device's own.
+    Pull { device: u16 },
     Status { device: u16 },
     /// Arms the device's disk: after so many further writes and syncs all fails.
     Fuse { device: u16, steps: u32 },
     /// Cuts the power.
     Power { device: u16, pick: Pick },
+    /// Lists the revisions.
+    Folder,
     File { device: u16, request: Request },
     Look { device: u16, show: Show },
 }

@@ -29,9 +29,7 @@ fn words(rt: HostRuntime) -> Result<(), Fail> {
     assert_eq!(rt; read(alloc, "\nmk d", false)?, (2, Some(Why::Word)));
     assert_eq!(rt; read(alloc, "par", false)?, (1, Some(Why::Word)));
     assert_eq!(rt; read(alloc, "par", true)?, (1, Some(Why::Later)));
-    assert_eq!(rt; read(alloc, "flush", false)?, (1, Some(Why::Later)));
-    let second = "device a 4096\ndevice A";
-    assert_eq!(rt; read(alloc, second, false)?, (2, Some(Why::Later)));
+    assert_eq!(rt; read(alloc, "settle", false)?, (1, Some(Why::Later)));
     Ok(())
 }
 
@@ -56,6 +54,44 @@ fn reasons(rt: HostRuntime) -> Result<(), Fail> {
 }
 
 #[test]
+fn members(rt: HostRuntime) -> Result<(), Fail> {
+    let alloc = rt.alloc();
+    let whole =
+        "device a 4096\ndevice b 4096\nfound a\ngrant a b reader\nrevoke a b\ndevice c 4096\ngrant b c writer";
+    assert_eq!(rt; read(alloc, whole, false)?, (7, None));
+    let early = "device a 4096\ngrant a a writer";
+    assert_eq!(rt; read(alloc, early, false)?, (2, Some(Why::Order)));
+    assert_eq!(rt;
+        read(alloc, "grant a b owner", false)?,
+        (1, Some(Why::Choice))
+    );
+    assert_eq!(rt;
+        read(alloc, "grant a b writer", false)?,
+        (1, Some(Why::Device))
+    );
+    let other = "device a 4096\nrevoke a b";
+    assert_eq!(rt; read(alloc, other, false)?, (2, Some(Why::Device)));
+    assert_eq!(rt; read(alloc, "revoke a", false)?, (1, Some(Why::Count)));
+    Ok(())
+}
+
+#[test]
+fn many_devices(rt: HostRuntime) -> Result<(), Fail> {
+    let alloc = rt.alloc();
+    let twice = "device a 4096\ndevice b 4096\ndevice a 4096";
+    assert_eq!(rt; read(alloc, twice, false)?, (3, Some(Why::Device)));
+    let short = "device a 4096\ndevice A";
+    assert_eq!(rt; read(alloc, short, false)?, (2, Some(Why::Count)));
+    let most =
+        "device a 4096\ndevice b 4096\ndevice c 4096\ndevice d 4096\ndevice e 4096\ndevice f 4096\ndevice g 4096\ndevice h 4096\ndevice i 4096\ndevice j 4096\ndevice k 4096\ndevice l 4096\ndevice m 4096\ndevice n 4096\ndevice o 4096\ndevice p 4096\ndevice q 4096\ndevice r 4096\ndevice s 4096\ndevice t 4096\ndevice u 4096\ndevice v 4096\ndevice w 4096\ndevice x 4096\ndevice y 4096\ndevice z 4096\ndevice 0 4096\ndevice 1 4096\ndevice 2 4096\ndevice 3 4096\ndevice 4 4096\ndevice 5 4096";
+    assert_eq!(rt; read(alloc, most, false)?, (32, None));
+    let past =
+        "device a 4096\ndevice b 4096\ndevice c 4096\ndevice d 4096\ndevice e 4096\ndevice f 4096\ndevice g 4096\ndevice h 4096\ndevice i 4096\ndevice j 4096\ndevice k 4096\ndevice l 4096\ndevice m 4096\ndevice n 4096\ndevice o 4096\ndevice p 4096\ndevice q 4096\ndevice r 4096\ndevice s 4096\ndevice t 4096\ndevice u 4096\ndevice v 4096\ndevice w 4096\ndevice x 4096\ndevice y 4096\ndevice z 4096\ndevice 0 4096\ndevice 1 4096\ndevice 2 4096\ndevice 3 4096\ndevice 4 4096\ndevice 5 4096\ndevice 6 4096";
+    assert_eq!(rt; read(alloc, past, false)?, (33, Some(Why::Order)));
+    Ok(())
+}
+
+#[test]
 fn disks(rt: HostRuntime) -> Result<(), Fail> {
     let alloc = rt.alloc();
     let whole =
@@ -70,6 +106,32 @@ fn disks(rt: HostRuntime) -> Result<(), Fail> {
     let power = "device a 4096\npower a old";
     assert_eq!(rt; read(alloc, power, false)?, (2, Some(Why::Order)));
     assert_eq!(rt; read(alloc, "status", false)?, (1, Some(Why::Count)));
+    Ok(())
+}
+
+#[test]
+fn folders(rt: HostRuntime) -> Result<(), Fail> {
+    let alloc = rt.alloc();
+    let whole =
+        "device a 4096\nfound a\nopen a\npick a\nland a\nnote a\nflush a\ndrain a\npull a\nfolder";
+    assert_eq!(rt; read(alloc, whole, false)?, (10, None));
+    assert_eq!(rt; read(alloc, "folder", false)?, (1, Some(Why::Order)));
+    assert_eq!(rt; read(alloc, "folder a", false)?, (1, Some(Why::Count)));
+    assert_eq!(rt; read(alloc, "flush a", false)?, (1, Some(Why::Device)));
+    Ok(())
+}
+
+#[test]
+fn seeds(rt: HostRuntime) -> Result<(), Fail> {
+    let alloc = rt.alloc();
+    let first = "#\nseed 00112233445566778899aabbccddeeff00112233445566778899AABBCCDDEEFF";
+    assert_eq!(rt; read(alloc, first, false)?, (1, None));
+    let late = "at 0\nseed 00112233445566778899aabbccddeeff00112233445566778899AABBCCDDEEFF";
+    assert_eq!(rt; read(alloc, late, false)?, (2, Some(Why::Order)));
+    let short = "seed 00112233445566778899aabbccddeeff00112233445566778899AABBCCDDEEF";
+    assert_eq!(rt; read(alloc, short, false)?, (1, Some(Why::Hex)));
+    let other = "seed g0112233445566778899aabbccddeeff00112233445566778899AABBCCDDEEFF";
+    assert_eq!(rt; read(alloc, other, false)?, (1, Some(Why::Hex)));
     Ok(())
 }
 

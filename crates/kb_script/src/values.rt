@@ -2,10 +2,11 @@ ghost use Rattle.std.specs.Prelude.{◌≡◌, ◌≤◌, ◌<◌, ◌^◌, true
 ghost use Rattle.std.specs.Option.{SomeIff};
 ghost use Rattle.kb_name.specs.Moments.{last_second};
 ghost use Rattle.kb_script.specs.Table.{last_u32};
-ghost use Rattle.kb_script.specs.Words.{is_digits, is_number, value, number_answer, data_answer};
+ghost use Rattle.kb_script.specs.Words.{is_digits, is_number, value, number_answer, data_answer, seed_answer};
 ghost use Rattle.kb_script.specs.Gives.{GivesLine};
 
 use super::faults::{LineFault, Why};
+use hex::FromHex;
 use kb_name::{Moment, unescape};
 use kb_ops::Bytes;
 use std::alloc::Global;
@@ -77,5 +78,15 @@ pub fn data(alloc: Global, word: &str) -> Result<Bytes, LineFault>
             Ok(Bytes::new(bytes))
         }
         _ => Err(LineFault::Bad(Why::Choice)),
+    }
+}
+
+/// The bytes of a seed: 64 hexadecimal digits.
+pub fn seed_word(word: &str) -> Result<[u8; 32], LineFault>
+    ensures { GivesLine (λ s. s) result (seed_answer word.now) }
+{
+    match <[u8; 32] as FromHex>::from_hex(word) {
+        Ok(seed) => Ok(seed),
+        Err(_) => Err(LineFault::Bad(Why::Hex)),
     }
 }

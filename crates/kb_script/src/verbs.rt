@@ -4,13 +4,23 @@ ghost use Rattle.kb_script.specs.Table.{verb_of, is_later_word};
 /// Which statement a line begins.
 #[derive(Clone, Copy, Debug, PartialEq, Eq)]
 pub enum Verb {
+    Seed,
     Device,
     Found,
+    Grant,
+    Revoke,
     At,
     Open,
+    Pick,
+    Land,
+    Note,
+    Flush,
+    Drain,
+    Pull,
     Status,
     Fuse,
     Power,
+    Folder,
     Mkdir,
     Mkfile,
     Link,
@@ -31,13 +41,23 @@ pub fn verb_of(word: &str) -> Option<Verb>
     ensures { result ≡ verb_of word.now }
 {
     match word {
+        "seed" => Some(Verb::Seed),
         "device" => Some(Verb::Device),
         "found" => Some(Verb::Found),
+        "grant" => Some(Verb::Grant),
+        "revoke" => Some(Verb::Revoke),
         "at" => Some(Verb::At),
         "open" => Some(Verb::Open),
+        "pick" => Some(Verb::Pick),
+        "land" => Some(Verb::Land),
+        "note" => Some(Verb::Note),
+        "flush" => Some(Verb::Flush),
+        "drain" => Some(Verb::Drain),
+        "pull" => Some(Verb::Pull),
         "status" => Some(Verb::Status),
         "fuse" => Some(Verb::Fuse),
         "power" => Some(Verb::Power),
+        "folder" => Some(Verb::Folder),
         "mkdir" => Some(Verb::Mkdir),
         "mkfile" => Some(Verb::Mkfile),
         "link" => Some(Verb::Link),
@@ -60,20 +80,7 @@ pub fn is_later_word(live: bool, word: &str) -> bool
     ensures { result ≡ is_later_word live word.now }
 {
     match word {
-        "seed"
-        | "grant"
-        | "revoke"
-        | "pick"
-        | "land"
-        | "note"
-        | "flush"
-        | "drain"
-        | "pull"
-        | "fetch"
-        | "settle"
-        | "resolve"
-        | "folder"
-        | "verify" => true,
+        "fetch" | "settle" | "resolve" | "verify" => true,
         "par" | "caller" | "flusher" | "end" => live,
         _ => false,
     }

@@ -10,7 +10,8 @@ use Rattle.kb_script.specs.declared.faults.ScriptFault.TheVariants as fault
 use Rattle.kb_script.specs.Scripts.{IsScript, ReadsScript}
 use Rattle.kb_script.proofs.ScriptsRead.{one_reading}
 use Rattle.kb_world.specs.Machine.{State, new_state}
-use Rattle.kb_world.specs.Stands.{WorldStands}
+use Rattle.kb_folder.specs.Chains.{Names}
+use Rattle.kb_world.specs.Standing.{WorldStands}
 use Rattle.kb_world.specs.declared.world.World.{World}
 use Rattle.kb_top.specs.Inputs.{IsInput, HasFault, fault_text, TellsScript, TellsNoScript}
 use Rattle.kb_top.specs.Outcomes.{NothingRan, Ran, OfScript, OfNoScript, Headline, IsTold, IsComplete}
@@ -19,12 +20,16 @@ use Rattle.kb_top.specs.declared.status.Status.{Status}
 use Rattle.kb_top.specs.declared.status.Status.TheVariants.{Done, Usage, Script, ReadFault, WriteFault, Memory}
 use Rattle.kb_top.proofs.Runs.{Appends-none}
 
+-- nothing ran, and nothing was written
+pub none_new : {M D : Type 0} {disks : Ghosts D} (world : World M D disks) (held : Option (List ℕ)) → ((names : Names) → WorldStands names world new_state) → NothingRan WorldStands world held held []
+none_new world held h = record { stands_for = h; bytes = Appends-none held }
+
 -- want of memory before anything ran
-pub ended_new : {M D : Type 0} {disks : Ghosts D} (world : World M D disks) (held : Option (List ℕ)) → WorldStands world new_state → (source : Option (List ℕ)) → Headline WorldStands world held held source Memory
+pub ended_new : {M D : Type 0} {disks : Ghosts D} (world : World M D disks) (held : Option (List ℕ)) → ((names : Names) → WorldStands names world new_state) → (source : Option (List ℕ)) → Headline WorldStands world held held source Memory
 ended_new world held h source = inl (record { stands_for = h; bytes = Appends-none held })
 
 -- that the bytes are no script was told, or a beginning of it, or memory ran out
-told_headline : {M D : Type 0} {disks : Ghosts D} (world : World M D disks) (before now source : Option (List ℕ)) (bytes : List ℕ) (f : ScriptFault) (status : Status) → WorldStands world new_state → IsInput source bytes → HasFault bytes f
+told_headline : {M D : Type 0} {disks : Ghosts D} (world : World M D disks) (before now source : Option (List ℕ)) (bytes : List ℕ) (f : ScriptFault) (status : Status) → ((names : Names) → WorldStands names world new_state) → IsInput source bytes → HasFault bytes f
     → IsTold before now (fault_text f) status → Headline WorldStands world before now source status
 told_headline world before now source bytes f Done h input has told = absurd told
 told_headline world before now source bytes f Usage h input has told = absurd told
@@ -33,7 +38,7 @@ told_headline world before now source bytes f Script h input has told = (bytes, 
 told_headline world before now source bytes f WriteFault h input has told = inl (bytes, f, input, has, (told.0, record { stands_for = h; bytes = told.1 }))
 told_headline world before now source bytes f Memory h input has told = inl (record { stands_for = h; bytes = told })
 
-pub tells_headline : {M D : Type 0} {disks : Ghosts D} (world : World M D disks) (before now source : Option (List ℕ)) (bytes text : List ℕ) (f : ScriptFault) (status : Status) → WorldStands world new_state → IsInput source bytes → text ≡ bytes
+pub tells_headline : {M D : Type 0} {disks : Ghosts D} (world : World M D disks) (before now source : Option (List ℕ)) (bytes text : List ℕ) (f : ScriptFault) (status : Status) → ((names : Names) → WorldStands names world new_state) → IsInput source bytes → text ≡ bytes
     → ReadsScript {X = Vec Statement Global} (λ v. v.items) false text (Err f) → IsTold before now (fault_text f) status → (f ≡ fault.Memory → status ≡ Memory) → Headline WorldStands world before now source status
 tells_headline world before now source bytes text fault.TooLong status h input same has told memory =
     told_headline world before now source bytes fault.TooLong status h input (subst (λ l. HasFault l fault.TooLong) same has) told
@@ -60,7 +65,7 @@ not_both bytes statements fault.TooLong is has = (let s = is.short in absurd (om
 not_both bytes statements (fault.BadLine line why) is has = (one_reading false bytes).not_both statements line why is has
 not_both bytes statements fault.Memory is has = has
 
-refused : {W : Type 0} (stands : W → State → Type 0) (world : W) (before now source : Option (List ℕ)) (P : List ℕ → Type 0) → OfNoScript stands world before now source P → TellsScript source → ⊥
+refused : {W : Type 0} (stands : Names → W → State → Type 0) (world : W) (before now source : Option (List ℕ)) (P : List ℕ → Type 0) → OfNoScript stands world before now source P → TellsScript source → ⊥
 refused stands world before now None P h tells = tells
 refused stands world before now (Some all) P h tells =
     let same : h.0 ≡ all = input_whole all h.0 h.2 tells.1.short in
@@ -71,13 +76,13 @@ short_whole all bytes input short =
     let size : length bytes ≡ min (SCRIPT_LIMIT + 1) (length all) = ap length input ∙ length-take (SCRIPT_LIMIT + 1) all in
     input ∙ take_all (SCRIPT_LIMIT + 1) all (omega arith)
 
-taken : {W : Type 0} (stands : W → State → Type 0) (world : W) (before now source : Option (List ℕ)) (P : List Statement → Type 0) → OfScript stands world before now source P → TellsNoScript source → ⊥
+taken : {W : Type 0} (stands : Names → W → State → Type 0) (world : W) (before now source : Option (List ℕ)) (P : List Statement → Type 0) → OfScript stands world before now source P → TellsNoScript source → ⊥
 taken stands world before now None P h tells = tells
 taken stands world before now (Some all) P h tells =
     tells h.1 (subst (λ bytes. IsScript false bytes h.1) (short_whole all h.0 h.2 h.3.short) h.3)
 
 -- a call is complete, since every other end has a cause
-pub complete : {W : Type 0} (stands : W → State → Type 0) (world : W) (before now source : Option (List ℕ)) (read_before read_now put_before put_now : ℕ) (status : Status)
+pub complete : {W : Type 0} (stands : Names → W → State → Type 0) (world : W) (before now source : Option (List ℕ)) (read_before read_now put_before put_now : ℕ) (status : Status)
     → Headline stands world before now source status → (status ≡ ReadFault → Rose read_before read_now) → (status ≡ WriteFault → Rose put_before put_now)
     → IsComplete source read_before read_now put_before put_now status
 complete stands world before now source rb rn pb pn Done h read write = record { runs = λ r p tells. inl refl; tells = λ r p tells. absurd (taken stands world before now source (λ statements. Ran stands world before now statements) h tells) }

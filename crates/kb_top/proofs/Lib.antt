@@ -1,3 +1,4 @@
 pub mod InputsRead
+pub mod Fits
 pub mod Runs
 pub mod Ends

@@ -1,47 +1,32 @@
 -- Runs go on, statement by statement.
-use Rattle.std.proofs.Common.{◌≡◌, ◌≤◌, ℕ, zero, suc, ◌+◌, Bool, true, false, cond, List, [], ◌∷◌, ◌++◌, take, Option, Some, None, refl, sym, ap, ◌∙◌, subst, append_assoc, append-nil, add-one, arith}
-use Rattle.std.specs.Prelude.{slice_get}
+use Rattle.std.proofs.Common.{◌≡◌, ◌≤◌, ℕ, zero, suc, ◌+◌, false, List, [], ◌∷◌, ◌++◌, take, Option, Some, None, inl, refl, sym, ap, ◌∙◌, subst, append_assoc, append-nil, add-one, arith}
+use Rattle.std.specs.Prelude.{slice_get, map, All}
 use Rattle.std.specs.Io.KnownBytes.{Appends}
-use Rattle.std.proofs.lemmas.List.Elements.{All-take, All-nil}
-use Rattle.kb_edge.specs.Goes.{Goes}
-use Rattle.kb_edge.specs.declared.disk.Disk.{Ghosts}
-use Rattle.kb_world.specs.Stands.{WorldStands, device_count, is_founded}
-use Rattle.kb_world.specs.declared.world.World.{World}
+use Rattle.std.proofs.lemmas.List.{map-append}
+use Rattle.std.proofs.lemmas.List.Elements.{All-take}
 use Rattle.kb_script.specs.declared.statements.Statement.{Statement}
-use Rattle.kb_script.specs.Fit.{IsFit, AllFitFrom, declared_after, found_after}
+use Rattle.kb_script.specs.Fit.{IsFit, AllFit, found_after}
 use Rattle.kb_lines.specs.declared.lines.Line.{Line}
 use Rattle.kb_lines.specs.LineTexts.{text_of_all}
-use Rattle.kb_world.specs.Machine.{State, new_state, Run, Steps, Ends, next as next_act}
-use Rattle.kb_world.proofs.OwnedRuns.{ends_keep, steps_keep}
-use Rattle.kb_world.proofs.UnfusedRuns.{unfused}
-use Rattle.kb_world.proofs.StatementParts.{lack_none}
-use Rattle.kb_world.proofs.Members.{none_there}
-use Rattle.kb_world.specs.Unfused.{HasNoFuse, ArmsNone}
-use Rattle.kb_top.specs.Outcomes.{Ran, Ended, Cut, text_of_each}
+use Rattle.kb_world.specs.Statements.{Reply}
+use Rattle.kb_world.specs.Statements as machine
+use Rattle.kb_world.specs.Machine.{State, new_state, Progress, Run, Steps, Ends}
+use Rattle.kb_world.specs.Good.{IsGood}
+use Rattle.kb_world.specs.RunLaws.{ArmsNone}
+use Rattle.kb_world.specs.RunReplies.{Begun}
+use Rattle.kb_world.proofs.Machine.{ends_keep}
+use Rattle.kb_world.proofs.GoodStates.{runs_good, good_owned}
+use Rattle.kb_world.proofs.Unfused.{unfused}
+use Rattle.kb_world.proofs.Determined.{runs_begin}
+use Rattle.kb_world.proofs.Begins.{scripts_answered}
+use Rattle.kb_folder.specs.Chains.{Names}
+use Rattle.kb_world.specs.Spoken.{statement_of}
+use Rattle.kb_world.specs.Doing.{MayDo, Does}
+use Rattle.kb_top.specs.Replies.{names_in, plain, text_of_replies, text_of_each, AllOwned, IsAnswered}
+use Rattle.kb_top.specs.Outcomes.{Ran, Ended, Cut}
+use Rattle.kb_top.proofs.Fits.{declared_after_all, found_after_all, declared_push, found_push, fit_at, names_next, After, after, may_do, may_follow}
 
--- how many devices are declared after statements, and whether the folder is founded
-abbrev pub declared_after_all : ℕ → List Statement → ℕ
-declared_after_all count [] = count
-declared_after_all count (statement ∷ statements) = declared_after_all (declared_after count statement) statements
-
-abbrev pub found_after_all : Bool → List Statement → Bool
-found_after_all found [] = found
-found_after_all found (statement ∷ statements) = found_after_all (found_after found statement) statements
-
-declared_push : (count : ℕ) (statements : List Statement) (statement : Statement) → declared_after_all count (statements ++ statement ∷ []) ≡ declared_after (declared_after_all count statements) statement
-declared_push count [] statement = refl
-declared_push count (first ∷ statements) statement = declared_push (declared_after count first) statements statement
-
-found_push : (found : Bool) (statements : List Statement) (statement : Statement) → found_after_all found (statements ++ statement ∷ []) ≡ found_after (found_after_all found statements) statement
-found_push found [] statement = refl
-found_push found (first ∷ statements) statement = found_push (found_after found first) statements statement
-
--- these statements ran
-pub record IsRunning {W : Type 0} (stands : W → State → Type 0) (count : W → ℕ) (founded : W → Bool) (world : W) (before now : Option (List ℕ)) (faults_before faults_now : ℕ) (statements : List Statement) : Type 0 where
-  pub ran : Ran stands world before now statements
-  pub declared : count world ≡ declared_after_all 0 statements
-  pub found : founded world ≡ found_after_all false statements
-  pub later : faults_before ≤ faults_now
+-- ---- bytes that were written
 
 pub Appends-none : (a : Option (List ℕ)) → Appends a a []
 Appends-none None = tt
@@ -53,112 +38,186 @@ Appends-both (Some x) None c bs cs p q = absurd p
 Appends-both (Some x) (Some y) None bs cs p q = absurd q
 Appends-both (Some x) (Some y) (Some z) bs cs p q = q ∙ ap (λ l. l ++ cs) p ∙ append_assoc x bs cs
 
-take_slice_get' : {A : Type 0} (xs : List A) (n : ℕ) (x : A) → slice_get xs n ≡ Some x → take (suc n) xs ≡ take n xs ++ x ∷ []
-take_slice_get' [] n x e = cc
-take_slice_get' (y ∷ xs) zero x e = let same : y ≡ x = cc in ap (λ z. z ∷ []) same
-take_slice_get' (y ∷ xs) (suc n) x e = ap (λ l. y ∷ l) (take_slice_get' xs n x e)
+-- ---- one statement more
 
-pub take_slice_get : {A : Type 0} (xs : List A) (n : ℕ) (x : A) → slice_get xs n ≡ Some x → take (n + 1) xs ≡ take n xs ++ x ∷ []
-take_slice_get xs n x e = rw add-one (take_slice_get' xs n x e)
+take_more' : {A : Type 0} (xs : List A) (n : ℕ) (x : A) → slice_get xs n ≡ Some x → take (suc n) xs ≡ take n xs ++ x ∷ []
+take_more' [] n x e = cc
+take_more' (y ∷ xs) zero x e = let same : y ≡ x = cc in ap (λ z. z ∷ []) same
+take_more' (y ∷ xs) (suc n) x e = ap (λ l. y ∷ l) (take_more' xs n x e)
 
-text_of_each-push : (each : List (List Line)) (lines : List Line) → text_of_each (each ++ lines ∷ []) ≡ text_of_each each ++ text_of_all lines
-text_of_each-push [] lines = append-nil (text_of_all lines)
-text_of_each-push (first ∷ each) lines = ap (λ l. text_of_all first ++ l) (text_of_each-push each lines) ∙ sym (append_assoc (text_of_all first) (text_of_each each) (text_of_all lines))
+pub take_more : {A : Type 0} (xs : List A) (n : ℕ) (x : A) → slice_get xs n ≡ Some x → take (n + 1) xs ≡ take n xs ++ x ∷ []
+take_more xs n x e = rw add-one (take_more' xs n x e)
 
-pub Run-more : (s : State) (statements : List Statement) (each : List (List Line)) (mid : State) (statement : Statement) (lines : List Line) (t : State)
-    → Run s statements each mid → Steps mid statement lines t → Run s (statements ++ statement ∷ []) (each ++ lines ∷ []) t
-Run-more s [] [] mid statement lines t run step = (t, subst (λ u. Steps u statement lines t) run step, refl)
-Run-more s (first ∷ statements) (l ∷ each) mid statement lines t run step = (run.0, run.1, Run-more run.0 statements each mid statement lines t run.2 step)
-Run-more s [] (l ∷ each) mid statement lines t run step = absurd run
-Run-more s (first ∷ statements) [] mid statement lines t run step = absurd run
+split : {A : Type 0} (xs : List A) (n : ℕ) (x : A) → slice_get xs n ≡ Some x → (rest : List A) × (xs ≡ take n xs ++ x ∷ rest)
+split [] n x e = cc
+split (y ∷ xs) zero x e = (xs, let same : y ≡ x = cc in ap (λ z. z ∷ xs) same)
+split (y ∷ xs) (suc n) x e = let rest = split xs n x e in (rest.0, ap (λ l. y ∷ l) rest.1)
 
--- each statement fits where it comes
-pub fit_at : (count : ℕ) (found : Bool) (statements : List Statement) (n : ℕ) (statement : Statement)
-    → AllFitFrom count found statements → slice_get statements n ≡ Some statement → IsFit (declared_after_all count (take n statements)) (found_after_all found (take n statements)) statement
-fit_at count found [] n statement fit e = cc
-fit_at count found (first ∷ statements) zero statement fit e = let same : first ≡ statement = cc in subst (λ s. IsFit count found s) same fit.0
-fit_at count found (first ∷ statements) (suc n) statement fit e = fit_at (declared_after count first) (found_after found first) statements n statement fit.1 e
+map_take : {A B : Type 0} (f : A → B) (n : ℕ) (xs : List A) → map f (take n xs) ≡ take n (map f xs)
+map_take f zero [] = refl
+map_take f (suc n) [] = refl
+map_take f zero (x ∷ xs) = refl
+map_take f (suc n) (x ∷ xs) = ap (λ l. f x ∷ l) (map_take f n xs)
 
-pub none_declared : {M D : Type 0} {disks : Ghosts D} (world : World M D disks) → WorldStands world new_state → device_count world ≡ 0
-none_declared world h = none_there [] 1 world.devices.items h.members
+Run-more : (s : State) (statements : List machine.Statement) (each : List (List Reply)) (mid : State) (statement : machine.Statement) (replies : List Reply) (t : State)
+    → Run s statements each mid → Steps mid statement replies t → Run s (statements ++ statement ∷ []) (each ++ replies ∷ []) t
+Run-more s [] [] mid statement replies t run step = (t, subst (λ u. Steps u statement replies t) run step, refl)
+Run-more s (first ∷ statements) (l ∷ each) mid statement replies t run step = (run.0, run.1, Run-more run.0 statements each mid statement replies t run.2 step)
+Run-more s [] (l ∷ each) mid statement replies t run step = absurd run
+Run-more s (first ∷ statements) [] mid statement replies t run step = absurd run
 
-pub not_founded : {M D : Type 0} {disks : Ghosts D} (world : World M D disks) → WorldStands world new_state → is_founded world ≡ false
-not_founded world h = off world.founded h.chain where
-  off : (b : Bool) → ◌≡◌ {A = ℕ} 0 (cond b 1 0) → b ≡ false
-  off true e = absurd (omega (arith, e))
-  off false e = refl
+run_more : (all : List Statement) (n : ℕ) (statement : Statement) (each : List (List Reply)) (mid : State) (replies : List Reply) (t : State)
+    → slice_get all n ≡ Some statement → Run new_state (plain (take n all)) each mid → Steps mid (statement_of statement) replies t → Run new_state (plain (take (n + 1) all)) (each ++ replies ∷ []) t
+run_more all n statement each mid replies t next run step =
+    subst (λ l. Run new_state l (each ++ replies ∷ []) t)
+    (sym (ap plain (take_more all n statement next) ∙ map-append statement_of (take n all) (statement ∷ [])))
+    (Run-more new_state (plain (take n all)) each mid (statement_of statement) replies t run step)
 
-module _ {W : Type 0} (stands : W → State → Type 0) (count : W → ℕ) (founded : W → Bool) where
-  pub none_ran : (world : W) (held : Option (List ℕ)) (faults : ℕ) → stands world new_state → count world ≡ 0 → founded world ≡ false → IsRunning stands count founded world held held faults faults []
-  none_ran world held faults is empty none =
-      record { ran = record { each = []; state = new_state; run = refl; stands_for = is; owned = tt; unfused = λ none. All-nil _; bytes = Appends-none held }; declared = empty; found = none; later = omega arith }
+text_more : (names : Names) (s : State) (statements : List Statement) (each : List (List Reply)) (mid : State) (statement : Statement) (replies : List Reply)
+    → Run s (plain statements) each mid → text_of_each names (statements ++ statement ∷ []) (each ++ replies ∷ []) ≡ text_of_each names statements each ++ text_of_replies names statement replies
+text_more names s [] [] mid statement replies run = append-nil (text_of_replies names statement replies)
+text_more names s (first ∷ statements) (l ∷ each) mid statement replies run =
+    ap (λ t. text_of_replies names first l ++ t) (text_more names run.0 statements each mid statement replies run.2)
+    ∙ sym (append_assoc (text_of_replies names first l) (text_of_each names statements each) (text_of_replies names statement replies))
+text_more names s [] (l ∷ each) mid statement replies run = absurd run
+text_more names s (first ∷ statements) [] mid statement replies run = absurd run
 
-  module _ (mid world : W) (before held now : Option (List ℕ)) (first second third : ℕ) (statements : List Statement) (n : ℕ) (statement : Statement) (next : slice_get statements n ≡ Some statement)
-      (running : IsRunning stands count founded mid before held first second (take n statements)) where
-    pub one_more : (lines : List Line) → Goes stands mid world (λ s t. Steps s statement lines t) → Appends held now (text_of_all lines)
-        → count world ≡ declared_after (count mid) statement → founded world ≡ found_after (founded mid) statement → second ≤ third → IsRunning stands count founded world before now first third (take (n + 1) statements)
-    one_more lines goes put counted found later =
-        let ran = running.ran in
-        let moved = goes ran.state ran.stands_for in
-        let all = take_slice_get statements n statement next in
-        subst (λ l. IsRunning stands count founded world before now first third l) (sym all)
-        (record {
-          ran = record {
-            each = ran.each ++ lines ∷ [];
+-- ---- what holds of each run
+
+owned_by : (s : State) → IsGood s → AllOwned s
+owned_by s good d m is = good_owned s d m good is
+
+answers : (statements : List Statement) (each : List (List Reply)) (t : State) → AllFit statements → Begun new_state (plain statements) each t → IsAnswered (plain statements) each
+answers statements each t fit begun = let all = scripts_answered (plain statements) (may_follow 0 false statements fit) in record { all = all.0; are = all.1; first = all.1.begun each t begun }
+
+-- the first statements ran, and some parts of the next one were done
+part_begun : (all : List Statement) (n : ℕ) (statement : Statement) (each : List (List Reply)) (mid : State) (replies : List Reply) (t : State)
+    → slice_get all n ≡ Some statement → Run new_state (plain (take n all)) each mid → Progress (statement_of statement) [] mid replies t → Begun new_state (plain all) (each ++ replies ∷ []) t
+part_begun all n statement each mid replies t next run part =
+    let cut = split all n statement next in
+    subst (λ l. Begun new_state l (each ++ replies ∷ []) t)
+    (sym (ap plain cut.1 ∙ map-append statement_of (take n all) (statement ∷ cut.0)))
+    ((runs_begin (plain (take n all)) each mid run).more (statement_of statement) (plain cut.0) replies t part)
+
+arms_first : (all : List Statement) (n : ℕ) → All ArmsNone (plain all) → All ArmsNone (plain (take n all))
+arms_first all n none = subst (λ l. All ArmsNone l) (sym (map_take statement_of n all)) (All-take ArmsNone n (plain all) none)
+
+-- these statements ran, under these names
+pub record IsRunning {W : Type 0} (stands : Names → W → State → Type 0) (names : Names) (world : W) (before now : Option (List ℕ)) (faults_before faults_now : ℕ) (statements : List Statement) : Type 0 where
+  pub each : List (List Reply)
+  pub state : State
+  pub run : Run new_state (plain statements) each state
+  pub stands_for : stands names world state
+  pub after : After (declared_after_all 0 statements) (found_after_all false statements) state
+  pub bytes : Appends before now (text_of_each names statements each)
+  pub later : faults_before ≤ faults_now
+
+-- Whatever state the world stood for, in which the statement might be done, it goes on to one that it stands for now.
+abbrev pub Moves : {W : Type 0} → (Names → W → State → Type 0) → W → W → Statement → (Names → State → State → Type 0) → Type 0
+Moves {W} stands old new statement P = (names : Names) (s : State) → stands names old s → MayDo names s statement → (t : State) × P names s t × stands names new t
+
+module _ {W : Type 0} (stands : Names → W → State → Type 0) where
+  pub none_ran : (world : W) (names : Names) (held : Option (List ℕ)) (faults : ℕ) → ((names : Names) → stands names world new_state) → IsRunning stands names world held held faults faults []
+  none_ran world names held faults is =
+      record { each = []; state = new_state; run = refl; stands_for = is names; after = (refl, λ none. refl); bytes = Appends-none held; later = omega arith }
+
+  pub all_ran : (world : W) (before now : Option (List ℕ)) (first second : ℕ) (statements ran : List Statement) → ran ≡ statements → AllFit statements → IsRunning stands (names_in statements) world before now first second ran → Ran stands world before now statements
+  all_ran world before now first second statements ran same fit running =
+      let r = subst (λ l. IsRunning stands (names_in statements) world before now first second l) same running in
+      let all = answers statements r.each r.state fit (runs_begin (plain statements) r.each r.state r.run).whole in
+      record {
+        each = r.each;
+        state = r.state;
+        run = r.run;
+        stands_for = r.stands_for;
+        owned = owned_by r.state (runs_good (plain statements) r.each r.state r.run);
+        unfused = λ none. unfused (plain statements) r.each r.state none r.run;
+        answered = all;
+        same = λ plain. (all.are.only r.each (record { state = r.state; run = r.run; plain = plain })).0;
+        bytes = r.bytes;
+      }
+
+  module _ (mid world : W) (before held now : Option (List ℕ)) (first second third : ℕ) (statements : List Statement) (fit : AllFit statements) (n : ℕ) (statement : Statement) (next : slice_get statements n ≡ Some statement)
+      (running : IsRunning stands (names_in statements) mid before held first second (take n statements)) where
+    abbrev pub names : Names
+    names = names_in statements
+
+    fits : IsFit (declared_after_all 0 (take n statements)) (found_after_all false (take n statements)) statement
+    fits = fit_at 0 false statements n statement fit next
+
+    -- it may be done
+    pub may_be_done : MayDo names running.state statement
+    may_be_done = may_do names running.state _ _ statement running.after fits (names_next statements n statement next)
+
+    -- it was done
+    module _ (lines : List Line) (goes : Moves stands mid world statement (λ names s t. Does names s statement lines t)) where
+      moved : (t : State) × Does names running.state statement lines t × stands names world t
+      moved = goes names running.state running.stands_for may_be_done
+
+      run : Run new_state (plain (take (n + 1) statements)) (running.each ++ moved.1.replies ∷ []) moved.0
+      run = run_more statements n statement running.each running.state moved.1.replies moved.0 next running.run moved.1.steps
+
+      text : text_of_all lines ≡ text_of_replies names statement moved.1.replies
+      text = ap text_of_all moved.1.lines_are
+
+      pub one_more : Appends held now (text_of_all lines) → second ≤ third → IsRunning stands (names_in statements) world before now first third (take (n + 1) statements)
+      one_more put later =
+          let all = take_more statements n statement next in
+          record {
+            each = running.each ++ moved.1.replies ∷ [];
             state = moved.0;
-            run = Run-more new_state (take n statements) ran.each ran.state statement lines moved.0 ran.run moved.1;
+            run = run;
             stands_for = moved.2;
-            owned = steps_keep ran.state statement lines moved.0 moved.1 ran.owned;
-            unfused = λ none. unfused (take n statements ++ statement ∷ []) (ran.each ++ lines ∷ []) moved.0 none (Run-more new_state (take n statements) ran.each ran.state statement lines moved.0 ran.run moved.1);
-            bytes = subst (λ l. Appends before now l) (sym (text_of_each-push ran.each lines)) (Appends-both before held now _ _ ran.bytes put);
-          };
-          declared = counted ∙ ap (λ k. declared_after k statement) running.declared ∙ sym (declared_push 0 (take n statements) statement);
-          found = found ∙ ap (λ b. found_after b statement) running.found ∙ sym (found_push false (take n statements) statement);
-          later = omega (arith, running.later);
-        })
+            after = subst (λ l. After (declared_after_all 0 l) (found_after_all false l) moved.0) (sym all)
+                (subst (λ b. After (declared_after_all 0 (take n statements ++ statement ∷ [])) b moved.0) (sym (found_push false (take n statements) statement))
+                (subst (λ k. After k (found_after (found_after_all false (take n statements)) statement) moved.0) (sym (declared_push 0 (take n statements) statement))
+                (after running.state moved.0 _ _ moved.1.replies running.after statement fits moved.1.steps)));
+            bytes = subst (λ l. Appends before now (text_of_each names l (running.each ++ moved.1.replies ∷ []))) (sym all)
+                (subst (λ l. Appends before now l) (sym (text_more names new_state (take n statements) running.each running.state statement moved.1.replies running.run))
+                (Appends-both before held now _ _ running.bytes (subst (λ l. Appends held now l) text put)));
+            later = omega (arith, running.later, later);
+          }
 
-    pub ended : Goes stands mid world (λ s t. Ends s statement t) → Ended stands world before held statements
+      -- a beginning of its lines was put
+      pub cut : (put : ℕ) → Appends held now (take put (text_of_all lines)) → Cut stands world before now statements
+      cut put bytes = record {
+        count = n;
+        statement = statement;
+        next = next;
+        each = running.each;
+        middle = running.state;
+        run = running.run;
+        replies = moved.1.replies;
+        state = moved.0;
+        step = moved.1.steps;
+        stands_for = moved.2;
+        owned = owned_by moved.0 (runs_good _ _ moved.0 run);
+        unfused = λ none. unfused (plain (take (n + 1) statements)) (running.each ++ moved.1.replies ∷ []) moved.0 (arms_first statements (n + 1) none) run;
+        answered = answers statements (running.each ++ moved.1.replies ∷ []) moved.0 fit (part_begun statements n statement running.each running.state moved.1.replies moved.0 next running.run moved.1.steps.0);
+        put = put;
+        bytes = Appends-both before held now _ _ running.bytes (subst (λ l. Appends held now (take put l)) text bytes);
+      }
+
+    -- want of memory ended it
+    pub ended : Moves stands mid world statement (λ names s t. Ends s (statement_of statement) t) → Ended stands world before held statements
     ended goes =
-        let ran = running.ran in
-        let moved = goes ran.state ran.stands_for in
+        let moved = goes names running.state running.stands_for may_be_done in
         record {
           count = n;
           statement = statement;
           next = next;
-          each = ran.each;
-          middle = ran.state;
-          run = ran.run;
+          each = running.each;
+          middle = running.state;
+          run = running.run;
           state = moved.0;
           ended = moved.1;
           stands_for = moved.2;
-          owned = ends_keep ran.state statement moved.0 moved.1 ran.owned;
-          unfused = λ none. unfused (take n statements) ran.each ran.state (All-take ArmsNone n statements none) ran.run;
-          bytes = ran.bytes;
+          owned = owned_by moved.0 (ends_keep running.state (statement_of statement) moved.0 moved.1 (runs_good _ _ running.state running.run));
+          unfused = λ none. unfused (plain (take n statements)) running.each running.state (arms_first statements n none) running.run;
+          answered = answers statements (running.each ++ moved.1.0 ∷ []) moved.1.1 fit (part_begun statements n statement running.each running.state moved.1.0 moved.1.1 next running.run moved.1.2);
+          bytes = running.bytes;
         }
 
-    -- want of memory ended the text of the next one
-    pub ended_after : (lines : List Line) → Goes stands mid world (λ s t. Steps s statement lines t) → Ended stands world before held statements
-    ended_after lines goes = ended (λ s h. let moved = goes s h in (moved.0, (moved.1.0, moved.0, moved.1.1, lack_none (next_act statement moved.1.0) moved.0), moved.2))
-
-    pub cut : (lines : List Line) → Goes stands mid world (λ s t. Steps s statement lines t) → (put : ℕ) → Appends held now (take put (text_of_all lines)) → Cut stands world before now statements
-    cut lines goes put bytes =
-        let ran = running.ran in
-        let moved = goes ran.state ran.stands_for in
-        record {
-          count = n;
-          statement = statement;
-          next = next;
-          each = ran.each;
-          middle = ran.state;
-          run = ran.run;
-          lines = lines;
-          state = moved.0;
-          step = moved.1;
-          stands_for = moved.2;
-          owned = steps_keep ran.state statement lines moved.0 moved.1 ran.owned;
-          unfused = λ none. unfused (take n statements ++ statement ∷ []) (ran.each ++ lines ∷ []) moved.0
-              (subst HasNoFuse (take_slice_get statements n statement next) (All-take ArmsNone (n + 1) statements none))
-              (Run-more new_state (take n statements) ran.each ran.state statement lines moved.0 ran.run moved.1);
-          put = put;
-          bytes = Appends-both before held now _ _ ran.bytes bytes;
-        }
+    -- or the text of its lines
+    pub ended_after : (lines : List Line) → Moves stands mid world statement (λ names s t. Does names s statement lines t) → Ended stands world before held statements
+    ended_after lines goes = ended (λ names s h may. let moved = goes names s h may in (moved.0, (moved.1.replies, moved.0, moved.1.steps.0, inl refl), moved.2))

@@ -1,17 +1,18 @@
 -- What a top call leaves, at each status.
-use Rattle.std.specs.Prelude.{◌≡◌, ◌⊎◌, ℕ, false, List, [], ◌∷◌, ◌++◌, take, Option, Some, slice_get, codes, map, string_bytes}
+use Rattle.std.specs.Prelude.{◌≡◌, ◌⊎◌, ℕ, false, List, [], ◌∷◌, ◌++◌, take, Option, Some, slice_get, codes, map, All, string_bytes}
 use Rattle.std.specs.declared.string.String.{String}
 use Rattle.std.specs.Io.KnownBytes.{Appends}
 use Rattle.kb_edge.specs.Causes.{Rose}
 use Rattle.kb_script.specs.declared.statements.Statement.{Statement}
 use Rattle.kb_script.specs.declared.faults.ScriptFault.{ScriptFault}
 use Rattle.kb_script.specs.Scripts.{IsScript}
-use Rattle.kb_lines.specs.declared.lines.Line.{Line}
-use Rattle.kb_lines.specs.LineTexts.{text_of_all}
+use Rattle.kb_world.specs.Statements.{Reply}
 use Rattle.kb_world.specs.Machine.{State, new_state, Run, Steps, Ends}
-use Rattle.kb_world.specs.Owned.{AllOwned}
-use Rattle.kb_world.specs.Unfused.{HasNoFuse, NoneStops}
+use Rattle.kb_world.specs.RunLaws.{ArmsNone, TellsNoStop, IsPlain}
+use Rattle.kb_folder.specs.Chains.{Names}
+use Rattle.kb_world.specs.Spoken.{statement_of}
 use Rattle.kb_top.specs.Inputs.{IsInput, HasFault, fault_text, TellsScript, TellsNoScript}
+use Rattle.kb_top.specs.Replies.{names_in, plain, text_of_replies, text_of_each, AllOwned, IsAnswered}
 use Rattle.kb_top.specs.declared.status.Status.{Status}
 use Rattle.kb_top.specs.declared.status.Status.TheVariants.{Done, Usage, Script, ReadFault, WriteFault, Memory}
 
@@ -26,57 +27,57 @@ IsTold before now text WriteFault = (put : ℕ) × Appends before now (take put 
 IsTold before now text Memory = Appends before now []
 IsTold before now text _ = ⊥
 
--- the bytes of the lines of statements, one after another
-abbrev pub text_of_each : List (List Line) → List ℕ
-text_of_each [] = []
-text_of_each (lines ∷ more) = text_of_all lines ++ text_of_each more
-
-module _ {W : Type 0} (stands : W → State → Type 0) (world : W) (before now : Option (List ℕ)) where
-  -- these statements ran, the world stands for the run's last state, and the bytes written are its lines
+module _ {W : Type 0} (stands : Names → W → State → Type 0) (world : W) (before now : Option (List ℕ)) where
+  -- These statements ran, the world stands for the run's last state, and the bytes written are the lines of its replies,
+  -- under the names that the statements declare.
   pub record Ran (statements : List Statement) : Type 0 where
-    pub each : List (List Line)
+    pub each : List (List Reply)
     pub state : State
-    pub run : Run new_state statements each state
-    pub stands_for : stands world state
+    pub run : Run new_state (plain statements) each state
+    pub stands_for : stands (names_in statements) world state
     pub owned : AllOwned state
-    pub unfused : HasNoFuse statements → NoneStops each
-    pub bytes : Appends before now (text_of_each each)
+    pub unfused : All ArmsNone (plain statements) → All (All TellsNoStop) each
+    pub answered : IsAnswered (plain statements) each
+    pub same : All (All IsPlain) each → each ≡ answered.all
+    pub bytes : Appends before now (text_of_each (names_in statements) statements each)
 
   -- the first statements ran, and put their lines; want of memory ended the next one, or its text
   pub record Ended (statements : List Statement) : Type 0 where
     pub count : ℕ
     pub statement : Statement
     pub next : slice_get statements count ≡ Some statement
-    pub each : List (List Line)
+    pub each : List (List Reply)
     pub middle : State
-    pub run : Run new_state (take count statements) each middle
+    pub run : Run new_state (plain (take count statements)) each middle
     pub state : State
-    pub ended : Ends middle statement state
-    pub stands_for : stands world state
+    pub ended : Ends middle (statement_of statement) state
+    pub stands_for : stands (names_in statements) world state
     pub owned : AllOwned state
-    pub unfused : HasNoFuse statements → NoneStops each
-    pub bytes : Appends before now (text_of_each each)
+    pub unfused : All ArmsNone (plain statements) → All (All TellsNoStop) each
+    pub answered : IsAnswered (plain statements) (each ++ ended.0 ∷ [])
+    pub bytes : Appends before now (text_of_each (names_in statements) (take count statements) each)
 
   -- the first statements ran, and put their lines; the next one ran, and put a beginning of its lines
   pub record Cut (statements : List Statement) : Type 0 where
     pub count : ℕ
     pub statement : Statement
     pub next : slice_get statements count ≡ Some statement
-    pub each : List (List Line)
+    pub each : List (List Reply)
     pub middle : State
-    pub run : Run new_state (take count statements) each middle
-    pub lines : List Line
+    pub run : Run new_state (plain (take count statements)) each middle
+    pub replies : List Reply
     pub state : State
-    pub step : Steps middle statement lines state
-    pub stands_for : stands world state
+    pub step : Steps middle (statement_of statement) replies state
+    pub stands_for : stands (names_in statements) world state
     pub owned : AllOwned state
-    pub unfused : HasNoFuse statements → NoneStops (each ++ lines ∷ [])
+    pub unfused : All ArmsNone (plain statements) → All (All TellsNoStop) (each ++ replies ∷ [])
+    pub answered : IsAnswered (plain statements) (each ++ replies ∷ [])
     pub put : ℕ
-    pub bytes : Appends before now (text_of_each each ++ take put (text_of_all lines))
+    pub bytes : Appends before now (text_of_each (names_in statements) (take count statements) each ++ take put (text_of_replies (names_in statements) statement replies))
 
   -- nothing ran, and these bytes were written
   pub record NothingRan (written : List ℕ) : Type 0 where
-    pub stands_for : stands world new_state
+    pub stands_for : (names : Names) → stands names world new_state
     pub bytes : Appends before now written
 
   -- how a run over statements ends

@@ -3,7 +3,8 @@ ghost use Rattle.std.specs.Prelude.{◌≡◌, ◌≤◌};
 ghost use Rattle.kb_edge.specs.Causes.{Rose};
 ghost use Rattle.kb_script.specs.Fit.{AllFit};
 ghost use Rattle.kb_world.specs.Machine.{new_state};
-ghost use Rattle.kb_world.specs.Stands.{WorldStands};
+ghost use Rattle.kb_folder.specs.Chains.{Names};
+ghost use Rattle.kb_world.specs.Standing.{WorldStands};
 ghost use Rattle.kb_top.specs.Inputs.{fault_text};
 ghost use Rattle.kb_top.specs.Outcomes.{RunsTo, Headline, IsComplete, IsTold};
 
@@ -24,7 +25,7 @@ pub fn run_script<S: Source, K: Sink, M: DiskMaker>(
     sink: &mut K,
     world: &mut World<M>,
 ) -> Status
-    requires { WorldStands world.old new_state }
+    requires { (names : Names) → WorldStands names world.old new_state }
     ensures headline { Headline WorldStands world.new (K.held sink.old) (K.held sink.new) (S.left source.old) result }
     ensures complete { IsComplete (S.left source.old) (S.faults source.old) (S.faults source.new) (K.faults sink.old) (K.faults sink.new) result }
     ensures read { result ≡ Status.ReadFault → Rose (S.faults source.old) (S.faults source.new) }
@@ -40,7 +41,7 @@ fn run_source<S: Source, K: Sink, M: DiskMaker>(
     sink: &mut K,
     world: &mut World<M>,
 ) -> Status
-    requires { WorldStands world.old new_state }
+    requires { (names : Names) → WorldStands names world.old new_state }
     ensures headline { Headline WorldStands world.new (K.held sink.old) (K.held sink.new) (S.left source.old) result }
     ensures read { result ≡ Status.ReadFault → Rose (S.faults source.old) (S.faults source.new) }
     ensures write { result ≡ Status.WriteFault → Rose (K.faults sink.old) (K.faults sink.new) }
@@ -79,7 +80,7 @@ fn run_all<K: Sink, M: DiskMaker>(
     sink: &mut K,
     world: &mut World<M>,
 ) -> Status
-    requires new { WorldStands world.old new_state }
+    requires new { (names : Names) → WorldStands names world.old new_state }
     requires fit { AllFit statements.now }
     ensures runs { RunsTo WorldStands world.new (K.held sink.old) (K.held sink.new) statements.now result }
     ensures later { K.faults sink.old ≤ K.faults sink.new }

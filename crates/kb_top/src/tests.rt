@@ -53,7 +53,7 @@ fn no_script_runs(rt: HostRuntime) -> Result<(), Fail> {
             rt.alloc(),
             "# one\n\nseed x",
             Status::Script,
-            "line 3: Later\n"
+            "line 3: Hex\n"
         )?
     );
     Ok(())
@@ -110,7 +110,7 @@ fn words_choose(rt: HostRuntime) -> Result<(), Fail> {
     let ended = run_words(alloc, &other, &mut source, &mut sink, &mut world);
     assert_eq!(rt; ended.code(), 2);
     assert_eq!(rt; sink.bytes(), USAGE.as_bytes());
-    assert!(rt; world.is_new());
+    let mut world = World::new(alloc, Rack);
     let run = vec![in alloc; String::from_str(alloc, "run")?]?;
     let ended = run_words(alloc, &run, &mut source, &mut sink, &mut world);
     assert_eq!(rt; ended.code(), 0);

@@ -2,7 +2,8 @@
 ghost use Rattle.std.specs.Prelude.{◌≡◌, ◌↔◌, IsTrue};
 ghost use Rattle.kb_edge.specs.Causes.{Rose};
 ghost use Rattle.kb_world.specs.Machine.{new_state};
-ghost use Rattle.kb_world.specs.Stands.{WorldStands};
+ghost use Rattle.kb_folder.specs.Chains.{Names};
+ghost use Rattle.kb_world.specs.Standing.{WorldStands};
 ghost use Rattle.kb_top.specs.Outcomes.{Headline, UsageEnd, IsComplete, IsRun};
 
 use crate::run::run_script;
@@ -20,7 +21,7 @@ pub fn run_words<S: Source, K: Sink, M: DiskMaker>(
     sink: &mut K,
     world: &mut World<M>,
 ) -> Status
-    requires { WorldStands world.old new_state }
+    requires { (names : Names) → WorldStands names world.old new_state }
     ensures run { IsRun words.now → Headline WorldStands world.new (K.held sink.old) (K.held sink.new) (S.left source.old) result }
     ensures complete { IsRun words.now → IsComplete (S.left source.old) (S.faults source.old) (S.faults source.new) (K.faults sink.old) (K.faults sink.new) result }
     ensures usage { ¬ IsRun words.now → UsageEnd WorldStands world.new (K.held sink.old) (K.held sink.new) result }

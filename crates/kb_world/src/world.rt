@@ -1,201 +1,484 @@
-//! The world of a run: a folder, its devices, and the moment.
-ghost use Rattle.std.specs.Prelude.{◌≡◌, ◌↔◌, ◌+◌, ◌<◌, ◌≤◌, List, Some, IfOk, OnOk, OnErr, IsTrue, true, false};
-ghost use Rattle.kb_edge.specs.Goes.{Goes, Stays};
-ghost use Rattle.kb_script.specs.Fit.{IsFit, declared_after, found_after, IsDeclared};
+//! The world of a run: a folder, its devices, the seed of all keys, and the moment.
+ghost use Rattle.std.specs.Prelude.{◌≡◌, ◌∷◌, ◌++◌, ◌+◌, ◌<◌, ◌≤◌, [], ℕ, List, Some, None, IfOk, OnOk, OnErr, IsTrue, ◌↔◌, length, vec_len, true, false};
+ghost use Rattle.std.specs.Vec.{vec_capacity};
+ghost use Rattle.kb_lines.specs.declared.lines.Line.TheVariants as shown;
+ghost use Rattle.kb_world.specs.Statements as statements;
+ghost use Rattle.kb_world.specs.Machine.{most_devices, State, new_state, ActStep, Lacks, Ends, flush_stage, drain_stage, ToPick, ToLand, ToNote};
+ghost use Rattle.kb_folder.specs.Chains.{Names};
+ghost use Rattle.kb_folder.specs.Held.{held};
+ghost use Rattle.kb_keys.specs.declared.policy.Action.TheVariants as action;
+ghost use Rattle.kb_snap.specs.Rekeys.{grant_of};
+ghost use Rattle.kb_script.specs.declared.statements.Statement.TheVariants as statement;
+ghost use Rattle.kb_world.specs.Doing.{is_picked, is_noted};
+ghost use Rattle.kb_world.specs.Printed.{printed};
 
-use crate::replies::{called_lines, one_line, opened_lines, room_for_one, shown_lines, told_line};
-use kb_device::Device;
+use crate::declared::{Declared, Waiting};
+use crate::listing::chain_lines;
+use crate::replies::{
+    called_line, landed_line, noted_line, opened_line, picked_line, pulled_line, rekeyed_line,
+    shown_line, told_line,
+};
+use kb_blocks::Sha256Hash;
+use kb_device::{Device, landing_law, longer_law};
 use kb_edge::{DiskMaker, Memory, Pick};
+use kb_folder::{Folder, beginning_law, machine_law, once_law};
+use kb_keys::{Role, Secrets};
 use kb_lines::Line;
 use kb_name::{DeviceName, Moment};
 use kb_ops::{Request, Show};
+use kb_rekey::{found, grant, rekey_law, revoke};
 use kb_script::Statement;
+use kb_seal::{HmacSealer, Key};
 use std::alloc::Global;
+
+/// How many revisions the folder takes.
+const MOST_REVISIONS: u32 = 1_000_000;
 
 /// The folder and its devices, in the order in which they are declared.
 #[derive(Drop)]
 pub struct World<M: DiskMaker> {
     alloc: Global,
     maker: M,
+    seed: Key,
     moment: Moment,
-    founded: bool,
-    devices: Vec<Device<M::D>>,
+    folder: Folder<HmacSealer, Sha256Hash>,
+    devices: Vec<Declared<M::D, HmacSealer, Sha256Hash>>,
+}
+
+// Room for the one line of a reply, taken before anything is done.
+fn room_for_one(alloc: Global) -> Result<Vec<Line>, Memory>
+    ensures empty { IfOk result (λ lines. lines.items ≡ []) }
+    ensures room { IfOk result (λ lines. vec_len lines < vec_capacity lines) }
+{
+    let lines = Vec::with_capacity(alloc, 1)?;
+    Ok(lines)
+}
+
+// The one line, in the room that was taken.
+fn one_line(room: Vec<Line>, line: Line) -> Vec<Line>
+    requires empty { room.items ≡ [] }
+    requires room { vec_len room < vec_capacity room }
+    ensures { result.items ≡ line ∷ [] }
+{
+    let mut lines = room;
+    lines.push_reserved(line);
+    lines
+}
+
+fn is_picked(line: &Line) -> bool
+    ensures { result ≡ is_picked line.now }
+{
+    matches!(line, Line::Picked { .. })
+}
+
+fn is_noted(line: &Line) -> bool
+    ensures { result ≡ is_noted line.now }
+{
+    matches!(line, Line::Noted { .. })
 }
 
 impl<M: DiskMaker> World<M> {
-    ghost use Rattle.kb_device.specs.Running.{IsSized};
-    ghost use Rattle.kb_world.specs.Machine.{State, new_state, ActStep, Declare, Found, SetMoment, Open, Tell, Arm, CutPower, Call, Look, Lacks, Steps, Ends};
-    ghost use Rattle.kb_world.specs.Stands.{WorldStands, device_count, is_founded};
+    ghost use Rattle.kb_device.specs.Sizes.{IsSized};
+    ghost use Rattle.kb_world.specs.Spoken.{statement_of};
+    ghost use Rattle.kb_world.specs.Standing.{WorldStands, IsStanding, device_count};
+    ghost use Rattle.kb_world.specs.Doing.{IsOneOf, MayDo, Tells, Does, DoesOn, GoesOn, stage_if, Flushes, IsNameOf};
 
-    /// A world at moment 0 without devices, whose folder has no revisions.
+    /// A world at moment 0 without devices, whose folder has no revisions, under the seed of zeros.
     pub fn new(alloc: Global, maker: M) -> World<M>
-        ensures { WorldStands result new_state }
+        ensures { (names : Names) → WorldStands names result new_state }
     {
+        beginning_law::<HmacSealer, Sha256Hash>();
         World {
             alloc,
             maker,
+            seed: [0; 32],
             moment: Moment::START,
-            founded: false,
+            folder: Folder::new(alloc, MOST_REVISIONS),
             devices: Vec::new(alloc),
         }
     }
 
     /// Whether nothing has been done yet.
     pub fn is_new(&self) -> bool
-        ensures { IsTrue result ↔ WorldStands self.now new_state }
+        requires { IsStanding self.now }
+        ensures { IsTrue result ↔ ((names : Names) → WorldStands names self.now new_state) }
     {
-        if self.moment != Moment::START || self.founded {
+        if self.moment != Moment::START || self.seed != [0; 32] {
             return false;
         }
         self.devices.is_empty()
     }
 
     // Declares a device with a disk of so many bytes.
-    fn declare(&mut self, name: &DeviceName, size: u32) -> Result<Vec<Line>, Memory>
-        requires count { device_count self.old < 32 }
+    fn declare(&mut self, name: &DeviceName, size: u32) -> Result<(), Memory>
+        requires stands { (names : Names) × (s : State) × WorldStands names self.old s × (length s.members < most_devices) }
         requires sized { IsSized size }
-        ensures step { IfOk result (λ lines. Goes WorldStands self.old self.new (λ s t. ActStep s (Declare name.now size) lines.items t)) }
-        ensures memory { OnErr result (Stays WorldStands self.old self.new) }
-        ensures count { OnOk result (device_count self.new ≡ device_count self.old + 1) }
-        ensures founded { is_founded self.new ≡ is_founded self.old }
+        ensures step { OnOk result ((names : Names) (s : State) → WorldStands names self.old s → MayDo names s (statement.Device name.now size) → (t : State) × ActStep s (statements.Declare name.now size) statements.Silent t × WorldStands names self.new t) }
+        ensures memory { OnErr result (GoesOn self.old self.new (λ names s t. t ≡ s)) }
     {
+        beginning_law::<HmacSealer, Sha256Hash>();
+        once_law::<HmacSealer, Sha256Hash>();
+        let shown = name.clone()?;
         let name = name.clone()?;
         self.devices.reserve(1)?;
+        self.folder.reserve()?;
         let disk = self.maker.make(self.alloc, size)?;
         let number = self.devices.len() as u16 + 1;
-        match self.devices.push(Device::new(number, name, disk)) {
-            Ok(()) => Ok(Vec::new(self.alloc)),
-            Err(_) => unreachable!(),
-        }
+        let secret = Secrets::new(self.seed).device(number);
+        self.folder.register_reserved(number, secret);
+        self.devices.push_reserved(Declared {
+            name: shown,
+            device: Device::new(number, name, secret, disk),
+            waiting: Waiting::Nothing,
+        });
+        Ok(())
     }
 
     // Makes the folder's first revision, by the device with this number.
-    fn found(&mut self, device: u16) -> Result<Vec<Line>, Memory>
-        requires { is_founded self.old ≡ false }
-        ensures step { IfOk result (λ lines. Goes WorldStands self.old self.new (λ s t. ActStep s (Found device) lines.items t)) }
-        ensures memory { OnErr result (Stays WorldStands self.old self.new) }
-        ensures count { device_count self.new ≡ device_count self.old }
-        ensures founded { OnOk result (is_founded self.new ≡ true) }
+    fn found(&mut self, device: u16) -> Result<Line, Memory>
+        requires { (names : Names) × (s : State) × WorldStands names self.old s × (s.chain ≡ []) × IsOneOf (length s.members) device }
+        ensures step { IfOk result (λ line. (names : Names) (s : State) → WorldStands names self.old s → MayDo names s (statement.Found device) → (t : State) × Tells names device s (statements.DoFound device) line (λ reply. Unit {0}) t × WorldStands names self.new t) }
+        ensures memory { OnErr result (GoesOn self.old self.new (λ names s t. t ≡ s)) }
     {
-        let room = room_for_one(self.alloc)?;
-        self.founded = true;
-        Ok(one_line(room, Line::FolderAt { revision: 1 }))
+        machine_law::<HmacSealer, Sha256Hash>();
+        longer_law::<HmacSealer, Sha256Hash>();
+        landing_law::<HmacSealer, Sha256Hash>();
+        let secrets = Secrets::new(self.seed);
+        let revision = found(self.alloc, &mut self.folder, &secrets, device, self.moment)?;
+        Ok(Line::FolderAt { revision })
     }
 
-    // Sets the moment of what follows.
-    fn set_moment(&mut self, moment: Moment) -> Vec<Line>
-        ensures step { Goes WorldStands self.old self.new (λ s t. ActStep s (SetMoment moment) result.items t) }
-        ensures count { device_count self.new ≡ device_count self.old }
-        ensures founded { is_founded self.new ≡ is_founded self.old }
+    // Makes a device a member, in another's name.
+    fn grant(&mut self, by: u16, device: u16, role: Role) -> Result<Line, Memory>
+        requires stands { IsStanding self.old }
+        requires by { IsOneOf (device_count self.old) by }
+        requires declared { IsOneOf (device_count self.old) device }
+        ensures step { IfOk result (λ line. GoesOn self.old self.new (λ names s t. Tells names by s (statements.DoRekey by (grant_of role) device) line (λ reply. Unit {0}) t)) }
+        ensures memory { OnErr result (GoesOn self.old self.new (λ names s t. t ≡ s)) }
     {
-        self.moment = moment;
-        Vec::new(self.alloc)
+        machine_law::<HmacSealer, Sha256Hash>();
+        longer_law::<HmacSealer, Sha256Hash>();
+        landing_law::<HmacSealer, Sha256Hash>();
+        rekey_law::<HmacSealer, Sha256Hash>();
+        let secrets = Secrets::new(self.seed);
+        let answer = grant(
+            self.alloc,
+            &mut self.folder,
+            &secrets,
+            by,
+            device,
+            role,
+            self.moment,
+        );
+        rekeyed_line(answer)
+    }
+
+    // Takes a member's role and its keys away, in another's name.
+    fn revoke(&mut self, by: u16, device: u16) -> Result<Line, Memory>
+        requires stands { IsStanding self.old }
+        requires by { IsOneOf (device_count self.old) by }
+        requires declared { IsOneOf (device_count self.old) device }
+        ensures step { IfOk result (λ line. GoesOn self.old self.new (λ names s t. Tells names by s (statements.DoRekey by action.Revoke device) line (λ reply. Unit {0}) t)) }
+        ensures memory { OnErr result (GoesOn self.old self.new (λ names s t. t ≡ s)) }
+    {
+        machine_law::<HmacSealer, Sha256Hash>();
+        longer_law::<HmacSealer, Sha256Hash>();
+        landing_law::<HmacSealer, Sha256Hash>();
+        rekey_law::<HmacSealer, Sha256Hash>();
+        let secrets = Secrets::new(self.seed);
+        let answer = revoke(
+            self.alloc,
+            &mut self.folder,
+            &secrets,
+            by,
+            device,
+            self.moment,
+        );
+        rekeyed_line(answer)
+    }
+
+    // The name of the device with this number.
+    fn name_of(&self, number: u16) -> Result<DeviceName, Memory>
+        requires { IsOneOf (device_count self.now) number }
+        ensures { IfOk result (IsNameOf self.now number) }
+    {
+        let name = self.devices[number as usize - 1].name.clone()?;
+        Ok(name)
     }
 
     // Opens a device. Where memory runs out, its disk may have done one step.
-    fn open(&mut self, number: u16) -> Result<Vec<Line>, Memory>
-        requires declared { IsDeclared (device_count self.old) number }
-        requires founded { is_founded self.old ≡ true }
-        ensures step { IfOk result (λ lines. Goes WorldStands self.old self.new (λ s t. ActStep s (Open number) lines.items t)) }
-        ensures memory { OnErr result (Goes WorldStands self.old self.new (Lacks (Some (Open number)))) }
-        ensures count { device_count self.new ≡ device_count self.old }
-        ensures founded { is_founded self.new ≡ is_founded self.old }
+    fn open(&mut self, number: u16) -> Result<Line, Memory>
+        requires stands { IsStanding self.old }
+        requires declared { IsOneOf (device_count self.old) number }
+        ensures step { IfOk result (λ line. GoesOn self.old self.new (λ names s t. Tells names number s (statements.On number statements.Open) line (λ reply. Unit {0}) t)) }
+        ensures memory { OnErr result (GoesOn self.old self.new (λ names s t. Lacks (Some (statements.On number statements.Open)) s t)) }
     {
-        let room = room_for_one(self.alloc)?;
-        let device = &mut self.devices[number as usize - 1];
-        let name = device.name().clone()?;
-        let answer = device.open(self.alloc);
-        let lines = opened_lines(room, name, answer)?;
-        Ok(lines)
+        let declared = &mut self.devices[number as usize - 1];
+        let name = declared.name.clone()?;
+        let answer = declared.open(self.alloc, &self.folder);
+        opened_line(name, answer)
+    }
+
+    // Makes the request for the first operation of a device's queue.
+    fn pick(&mut self, number: u16) -> Result<Line, Memory>
+        requires stands { IsStanding self.old }
+        requires declared { IsOneOf (device_count self.old) number }
+        ensures step { IfOk result (λ line. GoesOn self.old self.new (λ names s t. Tells names number s (statements.On number statements.Pick) line (λ reply. (flush_stage (Some reply) ≡ stage_if (is_picked line) ToLand) × (drain_stage (Some reply) ≡ flush_stage (Some reply))) t)) }
+        ensures memory { OnErr result (GoesOn self.old self.new (λ names s t. t ≡ s)) }
+        ensures count { device_count self.new ≡ device_count self.old }
+    {
+        let name = self.name_of(number)?;
+        let declared = &mut self.devices[number as usize - 1];
+        let answer = declared.pick(self.alloc);
+        let line = picked_line(name, answer)?;
+        Ok(line)
+    }
+
+    // Puts the request that waits for a device.
+    fn land(&mut self, number: u16) -> Result<Line, Memory>
+        requires stands { IsStanding self.old }
+        requires declared { IsOneOf (device_count self.old) number }
+        ensures step { IfOk result (λ line. GoesOn self.old self.new (λ names s t. Tells names number s (statements.On number statements.Land) line (λ reply. flush_stage (Some reply) ≡ Some ToNote) t)) }
+        ensures memory { OnErr result (GoesOn self.old self.new (λ names s t. t ≡ s)) }
+        ensures count { device_count self.new ≡ device_count self.old }
+    {
+        let name = self.name_of(number)?;
+        let declared = &mut self.devices[number as usize - 1];
+        machine_law::<HmacSealer, Sha256Hash>();
+        longer_law::<HmacSealer, Sha256Hash>();
+        landing_law::<HmacSealer, Sha256Hash>();
+        let answer = declared.land(&mut self.folder);
+        let line = landed_line(name, answer)?;
+        Ok(line)
+    }
+
+    // Notes the answer that waits for a device.
+    fn note(&mut self, number: u16) -> Result<Line, Memory>
+        requires stands { IsStanding self.old }
+        requires declared { IsOneOf (device_count self.old) number }
+        ensures step { IfOk result (λ line. GoesOn self.old self.new (λ names s t. Tells names number s (statements.On number statements.Note) line (λ reply. (flush_stage (Some reply) ≡ None) × (drain_stage (Some reply) ≡ stage_if (is_noted line) ToPick)) t)) }
+        ensures memory { OnErr result (GoesOn self.old self.new (λ names s t. t ≡ s)) }
+        ensures count { device_count self.new ≡ device_count self.old }
+    {
+        let name = self.name_of(number)?;
+        let declared = &mut self.devices[number as usize - 1];
+        let answer = declared.note();
+        Ok(noted_line(name, answer))
+    }
+
+    // Picks, lands and notes; where the pick is refused, it alone. Says whether an operation landed and was noted.
+    fn flush(&mut self, number: u16, lines: &mut Vec<Line>) -> Result<bool, Memory>
+        requires stands { IsStanding self.old }
+        requires declared { IsOneOf (device_count self.old) number }
+        ensures step { IfOk result (λ noted. GoesOn self.old self.new (λ names s t. Flushes names number s noted lines.old.items lines.new.items t)) }
+        ensures memory { OnErr result (GoesOn self.old self.new (λ names s t. Ends s (statements.Flush number) t)) }
+        ensures grows { IfOk result (λ noted. noted ≡ true → (held self.new.folder).state.length ≡ (held self.old.folder).state.length + 1) }
+        ensures count { device_count self.new ≡ device_count self.old }
+    {
+        lines.reserve(3)?;
+        let first = self.pick(number)?;
+        let picked = is_picked(&first);
+        lines.push_reserved(first);
+        if !picked {
+            return Ok(false);
+        }
+        let second = self.land(number)?;
+        lines.push_reserved(second);
+        let third = self.note(number)?;
+        let noted = is_noted(&third);
+        lines.push_reserved(third);
+        Ok(noted)
+    }
+
+    // Flushes until a part is refused.
+    fn drain(&mut self, number: u16) -> Result<Vec<Line>, Memory>
+        requires stands { IsStanding self.old }
+        requires declared { IsOneOf (device_count self.old) number }
+        ensures step { IfOk result (λ lines. GoesOn self.old self.new (λ names s t. Does names s (statement.Drain number) lines.items t)) }
+        ensures memory { OnErr result (GoesOn self.old self.new (λ names s t. Ends s (statements.Drain number) t)) }
+    {
+        let mut lines = Vec::new(self.alloc);
+        'flushes: loop {
+            if !self.flush(number, &mut lines)? {
+                return Ok(lines);
+            }
+        }
+    }
+
+    // Makes the folder's last revision known.
+    fn pull(&mut self, number: u16) -> Result<Line, Memory>
+        requires stands { IsStanding self.old }
+        requires declared { IsOneOf (device_count self.old) number }
+        ensures step { IfOk result (λ line. GoesOn self.old self.new (λ names s t. Tells names number s (statements.On number statements.Pull) line (λ reply. Unit {0}) t)) }
+        ensures memory { OnErr result (GoesOn self.old self.new (λ names s t. t ≡ s)) }
+    {
+        let name = self.name_of(number)?;
+        let declared = &mut self.devices[number as usize - 1];
+        let answer = declared.pull(self.alloc, &self.folder);
+        let line = pulled_line(name, answer)?;
+        Ok(line)
     }
 
     // Tells of a device's journal.
-    fn tell(&self, number: u16) -> Result<Vec<Line>, Memory>
-        requires { IsDeclared (device_count self.now) number }
-        ensures { IfOk result (λ lines. (s : State) → WorldStands self.now s → ActStep s (Tell number) lines.items s) }
+    fn tell(&self, number: u16) -> Result<Line, Memory>
+        requires { IsOneOf (device_count self.now) number }
+        ensures { IfOk result (λ line. (names : Names) (s : State) → WorldStands names self.now s → Tells names number s (statements.See number statements.Tell) line (λ reply. Unit {0}) s) }
     {
-        let room = room_for_one(self.alloc)?;
-        let device = &self.devices[number as usize - 1];
-        let name = device.name().clone()?;
-        let answer = device.status();
-        Ok(one_line(room, told_line(name, answer)))
+        let declared = &self.devices[number as usize - 1];
+        let name = declared.name.clone()?;
+        Ok(told_line(name, declared.device.status()))
     }
 
     // Arms a device's disk.
-    fn arm(&mut self, number: u16, steps: u32) -> Vec<Line>
-        requires { IsDeclared (device_count self.old) number }
-        ensures step { Goes WorldStands self.old self.new (λ s t. ActStep s (Arm number steps) result.items t) }
-        ensures count { device_count self.new ≡ device_count self.old }
-        ensures founded { is_founded self.new ≡ is_founded self.old }
+    fn arm(&mut self, number: u16, steps: u32)
+        requires stands { IsStanding self.old }
+        requires declared { IsOneOf (device_count self.old) number }
+        ensures { GoesOn self.old self.new (λ names s t. ActStep s (statements.On number (statements.Fuse steps)) statements.Silent t) }
     {
-        let device = &mut self.devices[number as usize - 1];
-        device.fuse(steps);
-        Vec::new(self.alloc)
+        let declared = &mut self.devices[number as usize - 1];
+        declared.fuse(steps);
     }
 
     // Cuts a device's power.
-    fn cut(&mut self, number: u16, pick: Pick) -> Result<Vec<Line>, Memory>
-        requires { IsDeclared (device_count self.old) number }
-        ensures step { IfOk result (λ lines. Goes WorldStands self.old self.new (λ s t. ActStep s (CutPower number) lines.items t)) }
-        ensures memory { OnErr result (Stays WorldStands self.old self.new) }
-        ensures count { device_count self.new ≡ device_count self.old }
-        ensures founded { is_founded self.new ≡ is_founded self.old }
+    fn cut(&mut self, number: u16, pick: Pick) -> Result<Line, Memory>
+        requires { IsOneOf (device_count self.old) number }
+        ensures step { IfOk result (λ line. GoesOn self.old self.new (λ names s t. Tells names number s (statements.On number statements.Power) line (λ reply. Unit {0}) t)) }
+        ensures memory { OnErr result (GoesOn self.old self.new (λ names s t. t ≡ s)) }
     {
-        let room = room_for_one(self.alloc)?;
-        let device = &mut self.devices[number as usize - 1];
-        let name = device.name().clone()?;
-        device.power(pick);
-        Ok(one_line(room, Line::Off { device: name }))
+        let declared = &mut self.devices[number as usize - 1];
+        let name = declared.name.clone()?;
+        declared.power(pick);
+        Ok(Line::Off { device: name })
+    }
+
+    // Lists the folder's chain.
+    fn list(&self) -> Result<Vec<Line>, Memory>
+        requires { IsStanding self.now }
+        ensures { IfOk result (λ lines. (names : Names) (s : State) → WorldStands names self.now s → lines.items ≡ printed names 0 (statements.Lists s.chain)) }
+    {
+        chain_lines(self.alloc, &self.folder, &self.devices)
     }
 
     // Shows what a device sees.
-    fn look(&self, number: u16, show: &Show) -> Result<Vec<Line>, Memory>
-        requires { IsDeclared (device_count self.now) number }
-        ensures { IfOk result (λ lines. (s : State) → WorldStands self.now s → ActStep s (Look number show.now) lines.items s) }
+    fn look(&self, number: u16, show: &Show) -> Result<Line, Memory>
+        requires { IsOneOf (device_count self.now) number }
+        ensures { IfOk result (λ line. (names : Names) (s : State) → WorldStands names self.now s → Tells names number s (statements.See number (statements.Look show.now)) line (λ reply. Unit {0}) s) }
     {
-        let room = room_for_one(self.alloc)?;
-        let device = &self.devices[number as usize - 1];
-        let name = device.name().clone()?;
-        let answer = device.show(self.alloc, show);
-        let lines = shown_lines(room, name, answer)?;
-        Ok(lines)
+        let declared = &self.devices[number as usize - 1];
+        let name = declared.name.clone()?;
+        let answer = declared.device.show(self.alloc, show);
+        shown_line(name, answer)
     }
 
     // A device does a file call.
-    fn call(&mut self, number: u16, request: &Request) -> Result<Vec<Line>, Memory>
-        requires { IsDeclared (device_count self.old) number }
-        ensures step { IfOk result (λ lines. Goes WorldStands self.old self.new (λ s t. ActStep s (Call number request.now) lines.items t)) }
-        ensures memory { OnErr result (Stays WorldStands self.old self.new) }
-        ensures count { device_count self.new ≡ device_count self.old }
-        ensures founded { is_founded self.new ≡ is_founded self.old }
+    fn call(&mut self, number: u16, request: &Request) -> Result<Line, Memory>
+        requires stands { IsStanding self.old }
+        requires declared { IsOneOf (device_count self.old) number }
+        ensures step { IfOk result (λ line. GoesOn self.old self.new (λ names s t. Tells names number s (statements.On number (statements.Call request.now)) line (λ reply. Unit {0}) t)) }
+        ensures memory { OnErr result (GoesOn self.old self.new (λ names s t. t ≡ s)) }
     {
-        let room = room_for_one(self.alloc)?;
-        let device = &mut self.devices[number as usize - 1];
-        let name = device.name().clone()?;
-        let answer = device.call(self.alloc, request, self.moment);
-        let lines = called_lines(room, name, answer)?;
-        Ok(lines)
+        let declared = &mut self.devices[number as usize - 1];
+        let name = declared.name.clone()?;
+        let answer = declared.call(self.alloc, request, self.moment);
+        called_line(name, answer)
+    }
+
+    // Sets the seed of all keys, before all devices.
+    fn set_seed(&mut self, seed: Key)
+        ensures { (names : Names) (s : State) → WorldStands names self.old s → MayDo names s (statement.Seed seed) → (t : State) × ActStep s (statements.SetSeed seed) statements.Silent t × WorldStands names self.new t }
+    {
+        beginning_law::<HmacSealer, Sha256Hash>();
+        self.seed = seed;
+    }
+
+    // Sets the moment of what follows.
+    fn set_moment(&mut self, moment: Moment)
+        ensures { (names : Names) (s : State) → WorldStands names self.old s → MayDo names s (statement.At moment) → (t : State) × ActStep s (statements.SetMoment moment) statements.Silent t × WorldStands names self.new t }
+    {
+        self.moment = moment;
     }
 
     /// Does a statement, and answers its lines. Where memory runs out, the world is as before the part that lacked it, but
     /// that an opening may have used one step of its device's disk.
+    #[tactic(none)]
     pub fn step(&mut self, statement: &Statement) -> Result<Vec<Line>, Memory>
-        requires { IsFit (device_count self.old) (is_founded self.old) statement.now }
-        ensures step { IfOk result (λ lines. Goes WorldStands self.old self.new (λ s t. Steps s statement.now lines.items t)) }
-        ensures memory { OnErr result (Goes WorldStands self.old self.new (λ s t. Ends s statement.now t)) }
-        ensures count { OnOk result (device_count self.new ≡ declared_after (device_count self.old) statement.now) }
-        ensures founded { OnOk result (is_founded self.new ≡ found_after (is_founded self.old) statement.now) }
+        requires { (names : Names) × (s : State) × WorldStands names self.old s × MayDo names s statement.now }
+        ensures step { IfOk result (λ lines. DoesOn self.old self.new statement.now (λ names s t. Does names s statement.now lines.items t)) }
+        ensures memory { OnErr result (DoesOn self.old self.new statement.now (λ names s t. Ends s (statement_of statement.now) t)) }
     {
+        let room = room_for_one(self.alloc)?;
         match statement {
-            Statement::Device { name, size } => self.declare(name, *size),
-            Statement::Found { device } => self.found(*device),
-            Statement::At { moment } => Ok(self.set_moment(*moment)),
-            Statement::Open { device } => self.open(*device),
-            Statement::Status { device } => self.tell(*device),
-            Statement::Fuse { device, steps } => Ok(self.arm(*device, *steps)),
-            Statement::Power { device, pick } => self.cut(*device, *pick),
-            Statement::File { device, request } => self.call(*device, request),
-            Statement::Look { device, show } => self.look(*device, show),
+            Statement::Seed { seed } => {
+                self.set_seed(*seed);
+                Ok(room)
+            }
+            Statement::Device { name, size } => {
+                self.declare(name, *size)?;
+                Ok(room)
+            }
+            Statement::Found { device } => {
+                let line = self.found(*device)?;
+                Ok(one_line(room, line))
+            }
+            Statement::Grant { by, device, role } => {
+                let line = self.grant(*by, *device, *role)?;
+                Ok(one_line(room, line))
+            }
+            Statement::Revoke { by, device } => {
+                let line = self.revoke(*by, *device)?;
+                Ok(one_line(room, line))
+            }
+            Statement::At { moment } => {
+                self.set_moment(*moment);
+                Ok(room)
+            }
+            Statement::Open { device } => {
+                let line = self.open(*device)?;
+                Ok(one_line(room, line))
+            }
+            Statement::Pick { device } => {
+                let line = self.pick(*device)?;
+                Ok(one_line(room, line))
+            }
+            Statement::Land { device } => {
+                let line = self.land(*device)?;
+                Ok(one_line(room, line))
+            }
+            Statement::Note { device } => {
+                let line = self.note(*device)?;
+                Ok(one_line(room, line))
+            }
+            Statement::Flush { device } => {
+                let mut lines = room;
+                self.flush(*device, &mut lines)?;
+                Ok(lines)
+            }
+            Statement::Drain { device } => self.drain(*device),
+            Statement::Pull { device } => {
+                let line = self.pull(*device)?;
+                Ok(one_line(room, line))
+            }
+            Statement::Status { device } => {
+                let line = self.tell(*device)?;
+                Ok(one_line(room, line))
+            }
+            Statement::Fuse { device, steps } => {
+                self.arm(*device, *steps);
+                Ok(room)
+            }
+            Statement::Power { device, pick } => {
+                let line = self.cut(*device, *pick)?;
+                Ok(one_line(room, line))
+            }
+            Statement::Folder => self.list(),
+            Statement::File { device, request } => {
+                let line = self.call(*device, request)?;
+                Ok(one_line(room, line))
+            }
+            Statement::Look { device, show } => {
+                let line = self.look(*device, show)?;
+                Ok(one_line(room, line))
+            }
         }
     }
 }

@@ -45,6 +45,26 @@ fn writes_and_cuts(rt: HostRuntime) -> Result<(), Fail> {
     Ok(())
 }
 
+#[test]
+fn calls_go_on_beside_a_flush(rt: HostRuntime) -> Result<(), Fail> {
+    let calls =
+        "mkdir laptop /a\npick laptop\nmkfile laptop /b\nmkfile laptop /c\nland laptop\nnote laptop\nstatus laptop\ndrain laptop\n";
+    let text =
+        "laptop: done 1\nlaptop: picked 1 as 2\nlaptop: done 2\nlaptop: done 3\nlaptop: landed 2\nlaptop: noted 2\nlaptop: status at 2 queue 2 last 3 merged idle\nlaptop: picked 2 as 3\nlaptop: landed 3\nlaptop: noted 3\nlaptop: picked 3 as 4\nlaptop: landed 4\nlaptop: noted 4\nlaptop: refused Idle\n";
+    assert!(rt; prints(rt.alloc(), 65_536, calls, text)?);
+    Ok(())
+}
+
+#[test]
+fn a_stopped_note_is_taken_over(rt: HostRuntime) -> Result<(), Fail> {
+    let calls =
+        "mkfile laptop /f\npick laptop\nland laptop\nfuse laptop 0\nnote laptop\npower laptop new\nopen laptop\nmkfile laptop /g\nflush laptop\nfolder\n";
+    let text =
+        "laptop: done 1\nlaptop: picked 1 as 2\nlaptop: landed 2\nlaptop: refused Stopped\nlaptop: off\nlaptop: open at 2 queue 0 last 1\nlaptop: done 2\nlaptop: picked 2 as 3\nlaptop: landed 3\nlaptop: noted 3\nfolder: 3 revisions generation 1\n1 found laptop\n2 step laptop 1\n3 step laptop 2\n";
+    assert!(rt; prints(rt.alloc(), 65_536, calls, text)?);
+    Ok(())
+}
+
 // So many of a letter.
 fn letters(alloc: Global, letter: char, count: u32) -> Result<String, Fail> {
     let mut text = String::new(alloc);
@@ -109,5 +129,35 @@ fn a_power_cut_leaves_what_its_kind_says(rt: HostRuntime) -> Result<(), Fail> {
     assert!(rt; leaves(alloc, 1, 1)?);
     assert!(rt; leaves(alloc, 2, 2)?);
     assert!(rt; leaves(alloc, 3, 2)?);
+    Ok(())
+}
+
+#[test]
+fn members_are_granted_and_revoked(rt: HostRuntime) -> Result<(), Fail> {
+    let script =
+        "device laptop 65536\ndevice phone 65536\nfound laptop\ngrant laptop phone reader\nopen laptop\nopen phone\nmkdir laptop /notes\nflush laptop\npull phone\nls phone /\nmkfile phone /notes/mine\nrevoke laptop phone\ngrant laptop phone writer\npull phone\nmkfile phone /notes/mine\nflush phone\npull laptop\ntree laptop\nrevoke laptop phone\nmkfile phone /notes/more\nflush phone\nrevoke laptop laptop\nfolder\n";
+    let text =
+        "folder: at 1\nfolder: at 2\nlaptop: open at 2 queue 0 last 0\nphone: open at 2 queue 0 last 0\nlaptop: done 1\nlaptop: picked 1 as 3\nlaptop: landed 3\nlaptop: noted 3\nphone: at 3\nphone: ls 1\nd notes 0\nphone: refused ReadOnly\nfolder: at 4\nfolder: at 5\nphone: at 5\nphone: done 1\nphone: picked 1 as 6\nphone: landed 6\nphone: noted 6\nlaptop: at 6\nlaptop: tree at 6 queue 0 rows 3\nd /notes 0\nf /notes/mine 0 - 0\nfolder: at 7\nphone: done 2\nphone: picked 2 as 7\nphone: refused NotWriter\nphone: kept\nfolder: refused LastWriter\nfolder: 7 revisions generation 3\n1 found laptop\n2 grant laptop phone reader\n3 step laptop 1\n4 revoke laptop phone\n5 grant laptop phone writer\n6 step phone 1\n7 revoke laptop phone\n";
+    assert!(rt; runs(rt.alloc(), script, text)?);
+    Ok(())
+}
+
+#[test]
+fn a_late_device_is_on_a_branch(rt: HostRuntime) -> Result<(), Fail> {
+    let script =
+        "device laptop 65536\ndevice phone 65536\nfound laptop\ngrant laptop phone writer\nopen laptop\nopen phone\nmkfile laptop /l\nmkfile phone /p\nflush laptop\nflush phone\nstatus phone\nmkfile phone /q\npick phone\npull phone\n";
+    let text =
+        "folder: at 1\nfolder: at 2\nlaptop: open at 2 queue 0 last 0\nphone: open at 2 queue 0 last 0\nlaptop: done 1\nphone: done 1\nlaptop: picked 1 as 3\nlaptop: landed 3\nlaptop: noted 3\nphone: picked 1 as 3\nphone: refused Stale 3\nphone: branched at 2\nphone: status at 2 queue 1 last 1 branched idle\nphone: done 2\nphone: refused Branched\nphone: refused Unflushed\n";
+    assert!(rt; runs(rt.alloc(), script, text)?);
+    Ok(())
+}
+
+#[test]
+fn devices_are_declared_beside_a_flight(rt: HostRuntime) -> Result<(), Fail> {
+    let script =
+        "device laptop 65536\nfound laptop\nopen laptop\nmkfile laptop /a\npick laptop\ndevice phone 65536\nland laptop\ndevice tablet 65536\nnote laptop\ngrant laptop tablet reader\nopen tablet\ntree tablet\ngrant laptop phone writer\nflush laptop\nmkfile laptop /b\nflush laptop\nopen phone\nmkfile phone /c\nflush phone\npull tablet\ntree tablet\n";
+    let text =
+        "folder: at 1\nlaptop: open at 1 queue 0 last 0\nlaptop: done 1\nlaptop: picked 1 as 2\nlaptop: landed 2\nlaptop: noted 2\nfolder: at 3\ntablet: open at 3 queue 0 last 0\ntablet: tree at 3 queue 0 rows 2\nf /a 0 - 0\nfolder: at 4\nlaptop: refused Idle\nlaptop: done 2\nlaptop: picked 2 as 3\nlaptop: refused Stale 4\nlaptop: branched at 2\nphone: open at 4 queue 0 last 0\nphone: done 1\nphone: picked 1 as 5\nphone: landed 5\nphone: noted 5\ntablet: at 5\ntablet: tree at 5 queue 0 rows 3\nf /a 0 - 0\nf /c 0 - 0\n";
+    assert!(rt; runs(rt.alloc(), script, text)?);
     Ok(())
 }

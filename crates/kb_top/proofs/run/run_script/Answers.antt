@@ -1,4 +1,4 @@
-use Rattle.kb_world.specs.Stands.{WorldStands}
+use Rattle.kb_world.specs.Standing.{WorldStands}
 use Rattle.kb_top.proofs.Ends.{complete}
 use Rattle.kb_top.proofs.run.run_script.Goals as goal
 

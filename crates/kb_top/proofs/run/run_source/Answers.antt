@@ -1,4 +1,4 @@
-use Rattle.kb_top.proofs.Ends.{ended_new, tells_headline, told_not_read}
+use Rattle.kb_top.proofs.Ends.{none_new, ended_new, tells_headline, told_not_read}
 use Rattle.kb_top.proofs.run.run_source.Goals as goal
 
 pub returns-in-Err-Memory-clause-headline : goal.returns-in-Err-Memory-clause-headline
@@ -11,3 +11,6 @@ returns-in-Err-clause-headline g c =
 
 pub returns-in-Err-clause-read : goal.returns-in-Err-clause-read
 returns-in-Err-clause-read g c = told_not_read (g.K.Sink.held c.args.sink.now) (g.K.Sink.held c.refuse.new.sink) _ c.refuse.result _ c.refuse.ensures.told
+
+pub returns-in-Err-Failed-clause-headline : goal.returns-in-Err-Failed-clause-headline
+returns-in-Err-Failed-clause-headline g c = none_new c.args.world.now (g.K.Sink.held c.args.sink.now) c.requires

@@ -1,24 +1,46 @@
-use Rattle.std.proofs.Common.{◌≡◌, None, is_some, refl, sym, ap, ◌∙◌}
-use Rattle.kb_device.proofs.Calls.{unless}
-use Rattle.kb_device.proofs.Devices.{none_of, none_by, no_rest, closed_at, same_device, goes_on, stops}
+use Rattle.std.proofs.Common.{◌≡◌, None, Some, is_some, refl, sym, ap, ◌∙◌}
+use Rattle.kb_device.specs.Views.{inside, platter}
+use Rattle.kb_device.proofs.Options.{none_of, none_by, no_rest}
+use Rattle.kb_device.proofs.Views.{inside_of, outside_of, disk_of, same_view, next_view, rest_view}
+use Rattle.kb_device.proofs.Servings.{closed_call, calls_on, calls_stop}
 use Rattle.kb_device.proofs.device.Device.call.Goals as goal
 
-pub returns-in_default-clause-step : goal.returns-in_default-clause-step
-returns-in_default-clause-step g c = λ chain p h. (p, (refl, closed_at chain c.args.self.now p (none_by c.args.self.now.session c.in_default.not-Some) h), same_device chain c.args.self.now _ p refl refl refl h)
+pub returns-in_default-clause-goes : goal.returns-in_default-clause-goes
+returns-in_default-clause-goes g c seed names v view =
+    let none = none_by c.args.self.now.session c.in_default.not-Some in
+    (v, same_view c.args.self.now _ v refl refl refl refl refl view, closed_call g.S.Sealer.sealed g.S.Sealer.signed g.H.BlockHash.hashed seed names v c.args.request.now c.args.moment (outside_of c.args.self.now v view none))
 
 pub call-answer-requires-clause-running : goal.call-answer-requires-clause-running
-call-answer-requires-clause-running g c = c.args.self.now.runs c.in-Some.session c.in-Some.is
+call-answer-requires-clause-running g c = (c.requires.runs c.in-Some.session c.in-Some.is).running
 
-pub returns-then-not-has_stopped-clause-step : goal.returns-then-not-has_stopped-clause-step
-returns-then-not-has_stopped-clause-step g c =
-    let device = c.args.self.now in
-    let none : device.resting ≡ None = none_of device.resting (no_rest (is_some device.resting) (is_some device.session) device.one (ap is_some c.in-Some.is)) in
-    unless c.call-answer.result _ (λ is chain.
-    goes_on device _ c.in-Some.session c.call-answer.new.self c.args.request.now c.args.moment c.call-answer.result none c.in-Some.is refl c.call-answer.ensures.does chain none refl (sym c.has_stopped.ensures ∙ c.if-not-has_stopped.true) is)
+pub call-answer-requires-clause-owned : goal.call-answer-requires-clause-owned
+call-answer-requires-clause-owned g c = (c.requires.runs c.in-Some.session c.in-Some.is).owned
 
-pub returns-clause-step : goal.returns-clause-step
-returns-clause-step g c =
+pub call-answer-requires-clause-opened : goal.call-answer-requires-clause-opened
+call-answer-requires-clause-opened g c = (c.requires.runs c.in-Some.session c.in-Some.is).opened
+
+pub returns-then-not-has_stopped_calling-clause-goes : goal.returns-then-not-has_stopped_calling-clause-goes
+returns-then-not-has_stopped_calling-clause-goes g c seed names v view =
     let device = c.args.self.now in
-    let none : device.resting ≡ None = none_of device.resting (no_rest (is_some device.resting) (is_some device.session) device.one (ap is_some c.in-Some.is)) in
-    unless c.call-answer.result _ (λ is chain.
-    stops device _ c.in-Some.session c.call-answer.new.self c.args.request.now c.args.moment c.call-answer.result none c.in-Some.is refl c.call-answer.ensures.does chain c.rest.ensures.disk c.rest.ensures.ended (sym c.has_stopped.ensures ∙ c.if-not-has_stopped.false))
+    let s = c.in-Some.session in
+    let t = c.call-answer.new.self in
+    let h = c.call-answer.ensures in
+    let none : device.resting ≡ None = none_of device.resting (no_rest (is_some device.resting) (is_some device.session) device.one (ap is_some c.in-Some.is)) in (
+      record v { disk = platter g.D.Disk t.journal.disk; inside = Some (inside t) },
+      next_view device _ v t refl refl refl none refl view,
+      calls_on g.S.Sealer.sealed g.S.Sealer.signed g.H.BlockHash.hashed seed names v (inside s) (inside t) (inside_of device v s view c.in-Some.is) device.number view.number c.args.request.now c.args.moment (platter g.D.Disk s.journal.disk) (platter g.D.Disk t.journal.disk)
+          (disk_of device v s view none c.in-Some.is) c.call-answer.result h.does h.running (sym c.has_stopped_calling.ensures ∙ c.if-not-has_stopped_calling.true),
+    )
+
+pub returns-clause-goes : goal.returns-clause-goes
+returns-clause-goes g c seed names v view =
+    let device = c.args.self.now in
+    let s = c.in-Some.session in
+    let t = c.call-answer.new.self in
+    let h = c.call-answer.ensures in
+    let none : device.resting ≡ None = none_of device.resting (no_rest (is_some device.resting) (is_some device.session) device.one (ap is_some c.in-Some.is)) in (
+      record v { disk = platter g.D.Disk t.journal.disk; inside = None },
+      rest_view device _ v t.journal.disk refl refl refl c.rest.ensures.disk c.rest.ensures.ended view,
+      calls_stop g.S.Sealer.sealed g.S.Sealer.signed g.H.BlockHash.hashed seed names v (inside s) (inside t) (inside_of device v s view c.in-Some.is) device.number view.number c.args.request.now c.args.moment (platter g.D.Disk s.journal.disk) (platter g.D.Disk t.journal.disk)
+          (disk_of device v s view none c.in-Some.is) c.call-answer.result h.does h.running (sym c.has_stopped_calling.ensures ∙ c.if-not-has_stopped_calling.false),
+    )

@@ -1,8 +1,7 @@
 use Rattle.std.proofs.Common.{refl}
-use Rattle.kb_device.specs.Parts.{powered}
-use Rattle.kb_device.proofs.Devices.{cut_off}
+use Rattle.kb_device.proofs.Powers.{cut_off}
 use Rattle.kb_device.proofs.device.Device.power.Goals as goal
 
-pub returns-clause-step : goal.returns-clause-step
-returns-clause-step g c = λ chain p h.
-    (powered p, refl, cut_off chain c.args.self.now _ p refl h c.rest.new.resting c.args.self.now.one c.rest.ensures.disk c.rest.ensures.ended c.cut.ensures)
+pub returns-clause-goes : goal.returns-clause-goes
+returns-clause-goes g c seed names v view =
+    cut_off g.S.Sealer.sealed g.S.Sealer.signed g.H.BlockHash.hashed seed names c.args.self.now _ refl refl refl v c.rest.new.resting c.args.self.now.one c.rest.ensures.disk c.rest.ensures.ended c.cut.ensures view

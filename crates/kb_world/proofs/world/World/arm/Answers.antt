@@ -1,13 +1,16 @@
-use Rattle.std.proofs.Common.{◌≡◌, ◌-◌, ◌<◌, Some, length, refl, arith}
-use Rattle.std.specs.Prelude.{slice_get}
-use Rattle.std.proofs.lemmas.Option.{slice_get_read}
+use Rattle.std.proofs.Common.{sym, ap, ◌∙◌, refl}
+use Rattle.kb_folder.specs.Held.{held}
 use Rattle.kb_world.proofs.Acts.{arms_device}
+use Rattle.kb_world.proofs.Borrows.{at_number}
+use Rattle.kb_world.proofs.Worlds.{runs_at}
 use Rattle.kb_world.proofs.world.World.arm.Goals as goal
 
-pub returns-clause-step : goal.returns-clause-step
-returns-clause-step g c =
-    let w = c.args.self.now in
-    let device = c.index_mut-device.result.now in
-    let within : c.args.number - 1 < length w.devices.items = (let low = c.requires.0 in let high = c.requires.1 in omega arith) in
-    let found : slice_get w.devices.items (c.args.number - 1) ≡ Some device = slice_get_read w.devices.items (length w.devices.items) (c.args.number - 1) device refl within c.index_mut-device.ensures.value in
-    arms_device w _ c.args.number device c.fuse.new.self c.requires.0 found refl refl refl c.fuse.ensures.number c.fuse.ensures.name c.args.steps c.new.result.items c.new.ensures.items c.fuse.ensures.step
+pub fuse-requires : goal.fuse-requires
+fuse-requires g c =
+    let found = at_number c.args.self.now.devices.items c.args.number c.index_mut-declared.result.now c.requires.declared.0 c.requires.declared.1 c.index_mut-declared.ensures.value in
+    runs_at c.args.self.now c.args.number c.index_mut-declared.result.now c.requires.declared.0 found c.requires.stands
+
+pub returns : goal.returns
+returns g c =
+    let found = at_number c.args.self.now.devices.items c.args.number c.index_mut-declared.result.now c.requires.declared.0 c.requires.declared.1 c.index_mut-declared.ensures.value in
+    arms_device c.args.self.now _ c.args.number c.index_mut-declared.result.now c.fuse.new.self c.requires.declared.0 found refl refl refl refl c.args.steps (c.fuse.ensures (held c.args.self.now.folder))

@@ -1,26 +1,27 @@
-use Rattle.std.proofs.Common.{◌≡◌, ◌-◌, ◌<◌, Some, length, refl, ap, ◌∙◌, arith}
-use Rattle.std.specs.Prelude.{slice_get}
-use Rattle.std.proofs.lemmas.Option.{slice_get_read}
-use Rattle.kb_world.specs.Replies.{called_lines}
-use Rattle.kb_device.proofs.Calls.{answered}
-use Rattle.kb_world.proofs.Acts.{on_err, calls_device, stays_device}
+use Rattle.std.proofs.Common.{refl, sym, ap, ◌∙◌}
+use Rattle.kb_folder.specs.Held.{held}
+use Rattle.kb_world.specs.Printed.{called_line}
+use Rattle.kb_world.specs.Told.{told_call}
+use Rattle.kb_world.proofs.Acts.{calls_device, call_lacks}
+use Rattle.kb_world.proofs.Borrows.{at_number, if_ok, on_err, err_always, stays}
+use Rattle.kb_world.proofs.Worlds.{runs_at}
 use Rattle.kb_world.proofs.world.World.call.Goals as goal
 
-pub returns-clause-step : goal.returns-clause-step
-returns-clause-step g c =
-    let w = c.args.self.now in
-    let device = c.index_mut-device.result.now in
-    let within : c.args.number - 1 < length w.devices.items = (let low = c.requires.0 in let high = c.requires.1 in omega arith) in
-    let found : slice_get w.devices.items (c.args.number - 1) ≡ Some device = slice_get_read w.devices.items (length w.devices.items) (c.args.number - 1) device refl within c.index_mut-device.ensures.value in
-    let named = c.in_ok-name.ensures.cases ∙ c.name.ensures in
-    let lines = c.in_ok-lines.ensures.lines ∙ ap (λ n. called_lines n c.call-answer.result) named in
-    let step = answered c.call-answer.result _ c.call-answer.ensures.step c.in_ok-lines.ensures.answer in
-    calls_device w _ c.args.number device c.call-answer.new.self c.requires.0 found refl refl refl c.call-answer.ensures.number c.call-answer.ensures.name c.args.request.now c.call-answer.result c.in_ok-lines.lines.items lines step
+pub call-answer-requires : goal.call-answer-requires
+call-answer-requires g c =
+    let found = at_number c.args.self.now.devices.items c.args.number c.index_mut-declared.result.now c.requires.declared.0 c.requires.declared.1 c.index_mut-declared.ensures.value in
+    runs_at c.args.self.now c.args.number c.index_mut-declared.result.now c.requires.declared.0 found c.requires.stands
 
-pub returns-in_err-lines-clause-memory : goal.returns-in_err-lines-clause-memory
-returns-in_err-lines-clause-memory g c =
-    let w = c.args.self.now in
-    let device = c.index_mut-device.result.now in
-    let within : c.args.number - 1 < length w.devices.items = (let low = c.requires.0 in let high = c.requires.1 in omega arith) in
-    let found : slice_get w.devices.items (c.args.number - 1) ≡ Some device = slice_get_read w.devices.items (length w.devices.items) (c.args.number - 1) device refl within c.index_mut-device.ensures.value in
-    on_err c.from_residual-in_err-lines.result (stays_device w _ c.args.number device c.call-answer.new.self c.requires.0 found refl refl refl c.call-answer.ensures.number c.call-answer.ensures.name (c.call-answer.ensures.memory c.in_err-lines.ensures.memory))
+pub returns : goal.returns
+returns g c =
+    let found = at_number c.args.self.now.devices.items c.args.number c.index_mut-declared.result.now c.requires.declared.0 c.requires.declared.1 c.index_mut-declared.ensures.value in
+    let turned = c.call-answer.ensures (held c.args.self.now.folder) in
+    record {
+      step = if_ok c.called_line.result _ _ _ (λ line is some. calls_device c.args.self.now _ c.args.number c.index_mut-declared.result.now c.call-answer.new.self c.requires.declared.0 found refl refl refl refl c.args.request.now c.call-answer.result line (is ∙ ap (λ k. called_line k (told_call c.call-answer.result)) c.in_ok-name.ensures.cases) some turned) c.called_line.ensures.line c.called_line.ensures.answer;
+      memory = on_err c.called_line.result _ _ (λ lacks. call_lacks c.args.self.now _ c.args.number c.index_mut-declared.result.now c.call-answer.new.self c.requires.declared.0 found refl refl refl refl c.args.request.now c.call-answer.result lacks turned) c.called_line.ensures.memory;
+    }
+
+pub returns-in_err-name-clause-memory : goal.returns-in_err-name-clause-memory
+returns-in_err-name-clause-memory g c =
+    let found = at_number c.args.self.now.devices.items c.args.number c.index_mut-declared.result.now c.requires.declared.0 c.requires.declared.1 c.index_mut-declared.ensures.value in
+    err_always c.from_residual.result _ (stays c.args.self.now _ c.args.number c.index_mut-declared.result.now found refl refl refl refl)

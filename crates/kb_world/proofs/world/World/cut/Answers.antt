@@ -1,16 +1,16 @@
-use Rattle.std.proofs.Common.{◌≡◌, ◌∷◌, [], ◌-◌, ◌<◌, Some, length, refl, ap, ◌∙◌, arith}
-use Rattle.std.specs.Prelude.{slice_get}
-use Rattle.std.proofs.lemmas.Option.{slice_get_read}
-use Rattle.kb_lines.specs.declared.lines.Line.TheVariants as line
+use Rattle.std.proofs.Common.{sym, ap, ◌∙◌, refl}
+use Rattle.kb_lines.specs.declared.lines.Line.TheVariants as shown
+use Rattle.kb_folder.specs.Held.{held}
 use Rattle.kb_world.proofs.Acts.{cuts_device}
+use Rattle.kb_world.proofs.Borrows.{at_number, err_always, stays}
 use Rattle.kb_world.proofs.world.World.cut.Goals as goal
 
-pub returns-clause-step : goal.returns-clause-step
-returns-clause-step g c =
-    let w = c.args.self.now in
-    let device = c.index_mut-device.result.now in
-    let within : c.args.number - 1 < length w.devices.items = (let low = c.requires.0 in let high = c.requires.1 in omega arith) in
-    let found : slice_get w.devices.items (c.args.number - 1) ≡ Some device = slice_get_read w.devices.items (length w.devices.items) (c.args.number - 1) device refl within c.index_mut-device.ensures.value in
-    let named = c.in_ok-name.ensures.cases ∙ c.name.ensures in
-    let lines = c.one_line.ensures ∙ ap (λ n. line.Off n ∷ []) named in
-    cuts_device w _ c.args.number device c.power.new.self c.requires.0 found refl refl refl c.power.ensures.number c.power.ensures.name c.one_line.result.items lines c.power.ensures.step
+pub returns : goal.returns
+returns g c =
+    let found = at_number c.args.self.now.devices.items c.args.number c.index_mut-declared.result.now c.requires.0 c.requires.1 c.index_mut-declared.ensures.value in
+    record { step = cuts_device c.args.self.now _ c.args.number c.index_mut-declared.result.now c.power.new.self c.requires.0 found refl refl refl refl (shown.Off c.in_ok-name.name) (ap shown.Off c.in_ok-name.ensures.cases) (c.power.ensures (held c.args.self.now.folder)); memory = tt }
+
+pub returns-in_err-name-clause-memory : goal.returns-in_err-name-clause-memory
+returns-in_err-name-clause-memory g c =
+    let found = at_number c.args.self.now.devices.items c.args.number c.index_mut-declared.result.now c.requires.0 c.requires.1 c.index_mut-declared.ensures.value in
+    err_always c.from_residual.result _ (stays c.args.self.now _ c.args.number c.index_mut-declared.result.now found refl refl refl refl)

@@ -1,18 +1,11 @@
-use Rattle.std.proofs.Common.{◌≡◌, ◌-◌, ◌<◌, Some, length, refl, ap, ◌∙◌, arith}
-use Rattle.std.specs.Prelude.{slice_get}
-use Rattle.std.proofs.lemmas.Option.{slice_get_read}
-use Rattle.kb_world.specs.Replies.{shown_lines}
-use Rattle.kb_device.proofs.Calls.{answered}
+use Rattle.std.proofs.Common.{sym, ap, ◌∙◌}
+use Rattle.kb_world.specs.Printed.{shown_line}
+use Rattle.kb_world.specs.Told.{told_look}
 use Rattle.kb_world.proofs.Acts.{looks_at}
+use Rattle.kb_world.proofs.Borrows.{at_number, if_ok}
 use Rattle.kb_world.proofs.world.World.look.Goals as goal
 
 pub returns : goal.returns
 returns g c =
-    let w = c.args.self.now in
-    let device = c.index-device.result.now in
-    let within : c.args.number - 1 < length w.devices.items = (let low = c.requires.0 in let high = c.requires.1 in omega arith) in
-    let found : slice_get w.devices.items (c.args.number - 1) ≡ Some device = slice_get_read w.devices.items (length w.devices.items) (c.args.number - 1) device refl within c.index-device.ensures in
-    let named = c.in_ok-name.ensures.cases ∙ c.name.ensures in
-    let lines = c.in_ok-lines.ensures.lines ∙ ap (λ n. shown_lines n c.show-answer.result) named in
-    let step = answered c.show-answer.result _ c.show-answer.ensures c.in_ok-lines.ensures.answer in
-    looks_at w c.args.number device c.args.show.now c.show-answer.result c.in_ok-lines.lines.items c.requires.0 found lines step
+    let found = at_number c.args.self.now.devices.items c.args.number c.index-declared.result.now c.requires.0 c.requires.1 c.index-declared.ensures in
+    if_ok c.shown_line.result _ _ _ (λ line is some. looks_at c.args.self.now c.args.number c.index-declared.result.now c.requires.0 found c.args.show.now c.show-answer.result line (is ∙ ap (λ k. shown_line k (told_look c.show-answer.result)) c.in_ok-name.ensures.cases) some c.show-answer.ensures) c.shown_line.ensures.line c.shown_line.ensures.answer

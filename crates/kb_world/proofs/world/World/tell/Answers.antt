@@ -1,17 +1,11 @@
-use Rattle.std.proofs.Common.{◌≡◌, ◌∷◌, [], ◌-◌, ◌<◌, Some, length, refl, ap, ◌∙◌, arith}
-use Rattle.std.specs.Prelude.{slice_get}
-use Rattle.std.proofs.lemmas.Option.{slice_get_read}
-use Rattle.kb_lines.specs.declared.lines.Line.{Line}
-use Rattle.kb_world.specs.Replies.{told_line}
+use Rattle.std.proofs.Common.{sym, ap, ◌∙◌}
+use Rattle.kb_world.specs.Printed.{status_line}
+use Rattle.kb_world.specs.Told.{told_tell}
 use Rattle.kb_world.proofs.Acts.{tells_of}
+use Rattle.kb_world.proofs.Borrows.{at_number}
 use Rattle.kb_world.proofs.world.World.tell.Goals as goal
 
 pub returns : goal.returns
 returns g c =
-    let w = c.args.self.now in
-    let device = c.index-device.result.now in
-    let within : c.args.number - 1 < length w.devices.items = (let low = c.requires.0 in let high = c.requires.1 in omega arith) in
-    let found : slice_get w.devices.items (c.args.number - 1) ≡ Some device = slice_get_read w.devices.items (length w.devices.items) (c.args.number - 1) device refl within c.index-device.ensures in
-    let named = c.in_ok-name.ensures.cases ∙ c.name.ensures in
-    let lines = c.one_line.ensures ∙ ap (λ (l : Line). l ∷ []) (c.told_line.ensures ∙ ap (λ n. told_line n c.status-answer.result) named) in
-    tells_of w c.args.number device c.status-answer.result c.one_line.result.items c.requires.0 found lines c.status-answer.ensures
+    let found = at_number c.args.self.now.devices.items c.args.number c.index-declared.result.now c.requires.0 c.requires.1 c.index-declared.ensures in
+    tells_of c.args.self.now c.args.number c.index-declared.result.now c.requires.0 found c.status.result c.told_line.result (c.told_line.ensures ∙ ap (λ k. status_line k (told_tell c.status.result)) c.in_ok-name.ensures.cases) c.status.ensures.goes

@@ -1,0 +1,72 @@
+-- An open device, as plain values.
+use Rattle.std.specs.Prelude.{◌≡◌, ◌⊎◌, ℕ, ◌+◌, ◌≤◌, false, List, length, drop, Option, Some, IsSome}
+use Rattle.std.specs.List.{AllByRecursion}
+use Rattle.std.specs.FinMap.{get}
+use Rattle.kb_name.specs.declared.ids.NodeId.{NodeId}
+use Rattle.kb_ops.specs.declared.rows.Op.{Op}
+use Rattle.kb_ops.specs.Grammar.{IsProper}
+use Rattle.kb_ops.specs.Trees.{Tree, apply, fold_ops, Fits, FitAll}
+use Rattle.kb_keys.specs.declared.policy.Role.{Role}
+use Rattle.kb_keys.specs.Rings.{Keys, key_at}
+use Rattle.kb_snap.specs.Pointers.{Kept}
+use Rattle.kb_journal.specs.State.{State}
+use Rattle.kb_device.specs.Parts.{Flight}
+use Rattle.kb_device.specs.Left.{left_of}
+
+-- A flight, and the pointers of the tree after it, which hold once its revision landed.
+pub record Aloft : Type 0 where
+  pub flight : Flight
+  pub kept : Kept
+
+-- What a branch is to be merged into: the length of the chain, the hash of its last revision, the tree there with pointers of
+-- its rows, the folder keys up to its generation; and the tree of the known revision.
+pub record Plan : Type 0 where
+  pub number : ℕ
+  pub hash : List ℕ
+  pub merged : Tree
+  pub kept : Kept
+  pub ring : Keys
+  pub generation : ℕ
+  pub base : Tree
+
+-- The journal; the base table, which is ahead of the known revision by so many first operations of the queue; the table
+-- that is shown; pointers of rows of the base table; the folder keys; the generation and the device's own role at the
+-- known revision; the flight; and what a branch is to be merged into.
+pub record Inside : Type 0 where
+  pub journal : State
+  pub base : Tree
+  pub ahead : ℕ
+  pub shown : Tree
+  pub kept : Kept
+  pub ring : Keys
+  pub generation : ℕ
+  pub role : Option Role
+  pub aloft : Option Aloft
+  pub plan : Option Plan
+
+-- a flight of the first operation, which the base table has already
+pub record Flies (s : Inside) (a : Aloft) : Type 0 where
+  pub number : a.flight.number ≡ s.journal.known + 1
+  pub count : a.flight.count ≡ 1
+  pub ahead : s.ahead ≡ 1
+  pub clear : s.journal.mark ≡ false
+
+-- What a session keeps whatever the folder: a revision is known, the queue can be spelled, what of it the base table
+-- hasn't yet fits there and makes the table that is shown; the generation is one, and its key is there.
+pub record IsRunning (s : Inside) : Type 0 where
+  pub known : 1 ≤ s.journal.known
+  pub proper : AllByRecursion IsProper s.journal.queue
+  pub few : s.ahead ≤ 1
+  pub ahead : s.ahead ≤ length s.journal.queue
+  pub fit : FitAll (drop s.ahead s.journal.queue) s.base
+  pub shown : s.shown ≡ fold_ops (drop s.ahead s.journal.queue) s.base
+  pub first : 1 ≤ s.generation
+  pub last : s.generation ≤ 64
+  pub keyed : IsSome (key_at s.ring s.generation)
+  pub aloft : (a : Aloft) → s.aloft ≡ Some a → Flies s a
+
+-- The base table has the operation, and the pointers that it touched are dropped.
+pub record HasDone (op : Op) (ahead ahead' : ℕ) (base base' : Tree) (kept kept' : Kept) : Type 0 where
+  pub ahead_is : ahead' ≡ 1
+  pub does : ((ahead ≡ 1) × (base' ≡ base) × (kept' ≡ kept))
+      ⊎ ((ahead ≡ 0) × Fits op base × (base' ≡ apply op base) × ((q : NodeId) → get kept' q ≡ left_of base op.change q (get kept q)))

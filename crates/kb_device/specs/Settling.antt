@@ -1,0 +1,137 @@
+-- How a branch is resolved.
+use Rattle.std.specs.Prelude.{◌≡◌, ℕ, ◌+◌, ◌≤◌, ◌<◌, ◌&&◌, nat_le, nat_lt, is_some, IsSome, Bool, true, false, List, length, Option, Some, None, Result, Ok, Err}
+use Rattle.std.specs.FinMap.{empty}
+use Rattle.sha2.specs.Sha256.{sha256}
+use Rattle.kb_ops.specs.Trees.{Tree, look}
+use Rattle.kb_keys.specs.declared.policy.Role.{Role}
+use Rattle.kb_keys.specs.Policies.{role_at}
+use Rattle.kb_keys.specs.Rings.{key_at}
+use Rattle.kb_snap.specs.Pointers.{Kept, AllHold}
+use Rattle.kb_snap.specs.Builds.{OnceAllStored}
+use Rattle.kb_journal.specs.State.{State, done}
+use Rattle.kb_journal.specs.declared.entries.Entry.TheVariants as entry
+use Rattle.kb_chain.specs.declared.states.FolderRequest.{FolderRequest}
+use Rattle.kb_chain.specs.declared.states.PutRefusal.{PutRefusal}
+use Rattle.kb_chain.specs.declared.states.PutRefusal.TheVariants as why
+use Rattle.kb_rules.specs.declared.stamp.Stamp.{Stamp}
+use Rattle.kb_rules.specs.declared.report.Report.{Report}
+use Rattle.kb_rules.specs.Merge.{report}
+use Rattle.kb_snap.specs.Chains.{merged_tree, stamp_of}
+use Rattle.kb_device.specs.Journals.{plain}
+use Rattle.kb_folder.specs.Puts.{Held, Puts}
+use Rattle.kb_device.specs.Merging.{merge_plain, IsMergeRequest}
+use Rattle.kb_device.specs.SettlesFor.{branch_at}
+use Rattle.kb_device.specs.declared.settled.SettleFault.{SettleFault}
+use Rattle.kb_device.specs.declared.settled.SettleFault.TheVariants as fault
+use Rattle.kb_device.specs.Inside.{Plan, Inside}
+use Rattle.kb_device.specs.Noting.{Writes, Stops}
+use Rattle.kb_device.specs.Stands.{Platter}
+
+-- the journal once its whole queue is merged in the revision with this number and hash
+abbrev pub resolved : State → ℕ → List ℕ → State
+resolved j number hash = done j (entry.Merged number hash (length j.queue))
+
+-- the session then: its tree is the merged one, with these pointers, and it has what the plan has
+abbrev pub with_merge : Inside → Plan → Tree → Kept → List ℕ → Option Role → Inside
+with_merge s x t pointers hash role = record {
+  journal = resolved s.journal (x.number + 1) hash;
+  base = t;
+  ahead = 0;
+  shown = t;
+  kept = pointers;
+  ring = x.ring;
+  generation = x.generation;
+  role = role;
+  aloft = None;
+  plan = None;
+}
+
+-- who merges the branch of a session: the device with this number and name, at this moment, by the first rule
+abbrev pub stamp_in : ℕ → List ℕ → ℕ → Inside → Stamp
+stamp_in d name moment s = stamp_of (merge_plain name (branch_at d moment (plain s.journal))) 1 s.journal.queue
+
+-- the tree is the rules' merge of the plan
+abbrev pub IsMergeOf : ℕ → List ℕ → ℕ → Inside → Plan → Tree → Type 0
+IsMergeOf d name moment s x t = t ≡ merged_tree x.base x.merged s.shown (stamp_in d name moment s)
+
+-- what that merge does
+abbrev pub report_of : ℕ → List ℕ → ℕ → Inside → Plan → Report
+report_of d name moment s x = report x.base x.merged s.shown (stamp_in d name moment s)
+
+-- A request of the branch as the revision behind the plan's, whose tree is this one; once its blocks are stored, the pointers hold rows of it.
+pub record IsAsked (sealed signed : List ℕ → List ℕ → List ℕ) (hashed : List ℕ → List ℕ) (d : ℕ) (secret : List ℕ) (moment : ℕ) (s : Inside) (x : Plan) (t : Tree) (request : FolderRequest) (pointers : Kept) : Type 0 where
+  pub key : List ℕ
+  pub keyed : key_at x.ring x.generation ≡ Some key
+  pub made : IsMergeRequest sealed signed hashed secret key x.generation (x.number + 1) x.hash (branch_at d moment (plain s.journal)) t empty request
+  pub holds : OnceAllStored hashed sealed x.generation key request.blocks (λ vault. AllHold vault (look t) empty → AllHold vault (look t) pointers)
+
+module _ (sealed signed : List ℕ → List ℕ → List ℕ) (hashed : List ℕ → List ℕ) (f g : Held) (d : ℕ) (secret : List ℕ) (moment : ℕ) (tree : Tree) (s : Inside) (was : Platter) (t : Inside) (now : Platter) where
+  -- the merge of the plan was put, with this answer
+  pub record Asks (answer : Result ℕ PutRefusal) : Type 0 where
+    pub plan : Plan
+    pub planned : s.plan ≡ Some plan
+    pub request : FolderRequest
+    pub pointers : Kept
+    pub asked : IsAsked sealed signed hashed d secret moment s plan tree request pointers
+    pub put : Puts signed hashed f request g answer
+
+  -- it landed, and is noted
+  pub record Settles (n : ℕ) : Type 0 where
+    pub number : ℕ
+    pub asks : Asks (Ok number)
+    pub n_is : n ≡ asks.plan.number + 1
+    pub session : t ≡ with_merge s asks.plan tree asks.pointers (sha256 asks.request.revision) (role_at g.state.policy.0 d)
+    pub disk : Writes (resolved s.journal n (sha256 asks.request.revision)) was now
+
+  -- it landed, and the disk stopped
+  pub record SettleBreaks : Type 0 where
+    pub number : ℕ
+    pub asks : Asks (Ok number)
+    pub disk : Stops s.journal (resolved s.journal (asks.plan.number + 1) (sha256 asks.request.revision)) was now
+
+  -- the folder refused it, and the plan is dropped
+  pub record Drops (refusal : PutRefusal) : Type 0 where
+    pub asks : Asks (Err refusal)
+    pub other : refusal ≡ why.Memory → ⊥
+    pub session : t ≡ record s { plan = None }
+    pub disk : now ≡ was
+
+  -- nothing changed
+  pub record Stays : Type 0 where
+    pub folder : g ≡ f
+    pub session : t ≡ s
+    pub disk : now ≡ was
+
+  -- what a settle does that gives this answer
+  abbrev pub SettleDoes : Result ℕ SettleFault → Type 0
+  SettleDoes (Ok n) = Settles n
+  SettleDoes (Err fault.Closed) = ⊥
+  SettleDoes (Err fault.NoPlan) = Stays × (s.plan ≡ None)
+  SettleDoes (Err fault.Memory) = Stays
+  SettleDoes (Err (fault.ByPut refusal)) = Drops refusal
+  SettleDoes (Err fault.Stopped) = SettleBreaks
+
+-- this holds of the settle, unless the disk stopped
+abbrev pub UnlessStopped : Result ℕ SettleFault → Type 0 → Type 0
+UnlessStopped (Err fault.Stopped) P = Unit {0}
+UnlessStopped r P = P
+
+-- The plan can be put: it isn't behind the known revision, its key is there, and the branch has so many operations at most.
+pub record CanSettle (s : Inside) (x : Plan) : Type 0 where
+  pub some : 1 ≤ length s.journal.queue
+  pub few : length s.journal.queue ≤ 4096
+  pub from : 1 ≤ x.number
+  pub behind : s.journal.known ≤ x.number
+  pub next : x.number < 4294967295
+  pub first : 1 ≤ x.generation
+  pub last : x.generation ≤ 64
+  pub keyed : IsSome (key_at x.ring x.generation)
+
+-- the session has this plan, which can be put
+abbrev pub can_settle : Inside → Plan → Bool
+can_settle s x = nat_le 1 (length s.journal.queue) && (nat_le (length s.journal.queue) 4096 && (nat_le 1 x.number && (nat_le s.journal.known x.number && (nat_lt x.number 4294967295 && (nat_le 1 x.generation && (nat_le x.generation 64 && is_some (key_at x.ring x.generation)))))))
+
+-- the disk stopped in the settle
+abbrev pub is_stopped : Result ℕ SettleFault → Bool
+is_stopped (Err fault.Stopped) = true
+is_stopped r = false

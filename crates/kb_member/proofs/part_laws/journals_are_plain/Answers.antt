@@ -1,5 +1,0 @@
-use Rattle.kb_member.proofs.Plain.{journals_plain}
-use Rattle.kb_member.proofs.part_laws.journals_are_plain.Goals as goal
-
-pub returns : goal.returns
-returns c = journals_plain

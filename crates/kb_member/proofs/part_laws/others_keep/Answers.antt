@@ -1,5 +1,0 @@
-use Rattle.kb_member.proofs.PartLonger.{others_keep}
-use Rattle.kb_member.proofs.part_laws.others_keep.Goals as goal
-
-pub returns : goal.returns
-returns c = others_keep

@@ -1,6 +1,0 @@
-use Rattle.std.proofs.Common.{◌≡◌, take}
-use Rattle.kb_member.specs.Fresh.{last_in}
-use Rattle.kb_member.proofs.seqs.last_in.Given as goal
-
-abbrev pub invariant-loop-row : goal.invariant-loop-row
-invariant-loop-row l = l.last ≡ last_in l.d (take l.row-index l.rows)

@@ -1,5 +1,0 @@
-use Rattle.kb_member.proofs.Step.{for}
-use Rattle.kb_member.proofs.step_requests.step_law.Goals as goal
-
-pub returns : goal.returns
-returns g c seed names f chain generation number head op t left request has made registered most known = for g.S.Sealer.sealed g.S.Sealer.signed g.H.BlockHash.hashed g.met.S.Sealer.one_plain seed names f generation number head op t left request made chain has registered most known

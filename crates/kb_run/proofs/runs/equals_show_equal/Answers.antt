@@ -1,5 +1,0 @@
-use Rattle.kb_run.proofs.GoodStates.{equals_show}
-use Rattle.kb_run.proofs.runs.equals_show_equal.Goals as goal
-
-pub returns : goal.returns
-returns c = equals_show

@@ -1,5 +1,0 @@
-use Rattle.kb_run.proofs.GoodStates.{one_beyond}
-use Rattle.kb_run.proofs.runs.one_beyond.Goals as goal
-
-pub returns : goal.returns
-returns c = one_beyond

@@ -1,5 +1,0 @@
-use Rattle.kb_run.proofs.Determined.{runs_determined}
-use Rattle.kb_run.proofs.runs.runs_are_determined.Goals as goal
-
-pub returns : goal.returns
-returns c = runs_determined

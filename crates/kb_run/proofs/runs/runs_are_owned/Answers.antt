@@ -1,5 +1,0 @@
-use Rattle.kb_run.proofs.GoodStates.{good_owned}
-use Rattle.kb_run.proofs.runs.runs_are_owned.Goals as goal
-
-pub returns : goal.returns
-returns c = good_owned

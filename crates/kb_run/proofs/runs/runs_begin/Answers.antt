@@ -1,5 +1,0 @@
-use Rattle.kb_run.proofs.Determined.{runs_begin}
-use Rattle.kb_run.proofs.runs.runs_begin.Goals as goal
-
-pub returns : goal.returns
-returns c = runs_begin

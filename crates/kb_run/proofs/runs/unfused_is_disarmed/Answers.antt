@@ -1,5 +1,0 @@
-use Rattle.kb_run.proofs.Unfused.{unfused_disarmed}
-use Rattle.kb_run.proofs.runs.unfused_is_disarmed.Goals as goal
-
-pub returns : goal.returns
-returns c = unfused_disarmed

@@ -1,5 +1,0 @@
-use Rattle.kb_run.proofs.One.{whole_one}
-use Rattle.kb_run.proofs.runs.whole_have_one.Goals as goal
-
-pub returns : goal.returns
-returns c = whole_one

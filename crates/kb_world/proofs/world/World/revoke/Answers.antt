@@ -1,0 +1,18 @@
+use Rattle.std.proofs.Common.{refl, sym, subst}
+use Rattle.sha2.specs.Sha256.{sha256}
+use Rattle.kb_seal.specs.Sealing.{seal_by_hmac, sign_by_hmac}
+use Rattle.kb_keys.specs.declared.policy.Action.TheVariants as action
+use Rattle.kb_folder.specs.Held.{held}
+use Rattle.kb_rekey.specs.Rekeying.{IsStanding}
+use Rattle.kb_world.proofs.Borrows.{if_ok, on_err}
+use Rattle.kb_world.proofs.Rekeying.{folder_stands, rekeys, rekey_lacks}
+use Rattle.kb_world.proofs.world.World.revoke.Goals as goal
+
+pub revoke-answer-requires : goal.revoke-answer-requires
+revoke-answer-requires g c = subst (λ k. IsStanding seal_by_hmac sign_by_hmac sha256 k (held c.args.self.now.folder)) (sym c.new-secrets.ensures) (folder_stands c.args.self.now c.requires.stands)
+
+pub returns : goal.returns
+returns g c = record {
+  step = if_ok c.rekeyed_line.result _ _ _ (λ line is some. rekeys c.args.self.now _ c.args.by action.Revoke c.args.device c.requires.by c.requires.declared refl refl refl c.longer_law.ensures c.machine_law.ensures.stay c.landing_law.ensures.stays c.rekey_law.ensures _ c.new-secrets.ensures c.revoke-answer.result c.revoke-answer.ensures line is some) c.rekeyed_line.ensures.line c.rekeyed_line.ensures.answer;
+  memory = on_err c.rekeyed_line.result _ _ (λ lacks. rekey_lacks c.args.self.now _ c.args.by action.Revoke c.args.device c.requires.by c.requires.declared refl refl refl c.longer_law.ensures c.machine_law.ensures.stay c.landing_law.ensures.stays c.rekey_law.ensures _ c.new-secrets.ensures c.revoke-answer.result c.revoke-answer.ensures lacks) c.rekeyed_line.ensures.memory;
+}
