@@ -3,7 +3,7 @@ use Rattle.std.proofs.Common.{◌≡◌, ℕ, Bool, List, [], ◌∷◌, ◌++�
 use Rattle.std.specs.List.{list_any}
 use Rattle.std.proofs.lemmas.List.{reverse-append}
 use Rattle.kb_script.specs.declared.statements.Statement.{Statement}
-use Rattle.kb_script.specs.declared.statements.Statement.TheVariants.{Seed, Device, Found, Grant, Revoke, At, Open, Pick, Land, Note, Flush, Drain, Pull, Status, Fuse, Power, Folder, File, Look}
+use Rattle.kb_script.specs.declared.statements.Statement.TheVariants.{Seed, Device, Found, Grant, Revoke, At, Open, Pick, Land, Note, Flush, Drain, Pull, Fetch, Settle, Resolve, Status, Fuse, Power, Folder, File, Look}
 use Rattle.kb_script.specs.Fit.{IsFit, AllFit, AllFitFrom, declared_after, found_after}
 use Rattle.kb_script.specs.Seen.{Known}
 use Rattle.kb_script.specs.Earlier.{known_of, after, declared, is_found, AllFitBack}
@@ -22,6 +22,9 @@ known_step earlier (Note d) = refl
 known_step earlier (Flush d) = refl
 known_step earlier (Drain d) = refl
 known_step earlier (Pull d) = refl
+known_step earlier (Fetch d) = refl
+known_step earlier (Settle d) = refl
+known_step earlier (Resolve d) = refl
 known_step earlier (Status d) = refl
 known_step earlier (Fuse d n) = refl
 known_step earlier (Power d p) = refl
@@ -57,6 +60,9 @@ counted (Note d) earlier = refl
 counted (Flush d) earlier = refl
 counted (Drain d) earlier = refl
 counted (Pull d) earlier = refl
+counted (Fetch d) earlier = refl
+counted (Settle d) earlier = refl
+counted (Resolve d) earlier = refl
 counted (Status d) earlier = refl
 counted (Fuse d n) earlier = refl
 counted (Power d p) earlier = refl
@@ -78,6 +84,9 @@ founded (Note d) earlier = refl
 founded (Flush d) earlier = refl
 founded (Drain d) earlier = refl
 founded (Pull d) earlier = refl
+founded (Fetch d) earlier = refl
+founded (Settle d) earlier = refl
+founded (Resolve d) earlier = refl
 founded (Status d) earlier = refl
 founded (Fuse d n) earlier = refl
 founded (Power d p) earlier = refl

@@ -3,7 +3,7 @@ use Rattle.std.specs.Prelude.{◌≡◌, ℕ, ◌+◌, ◌≤◌, ◌<◌, Bool,
 use Rattle.kb_name.specs.Names.{is_device_name}
 use Rattle.kb_name.specs.Moments.{last_second}
 use Rattle.kb_script.specs.declared.statements.Statement.{Statement}
-use Rattle.kb_script.specs.declared.statements.Statement.TheVariants.{Seed, Device, Found, Grant, Revoke, At, Open, Pick, Land, Note, Flush, Drain, Pull, Status, Fuse, Power, Folder, File, Look}
+use Rattle.kb_script.specs.declared.statements.Statement.TheVariants.{Seed, Device, Found, Grant, Revoke, At, Open, Pick, Land, Note, Flush, Drain, Pull, Fetch, Settle, Resolve, Status, Fuse, Power, Folder, File, Look}
 
 -- a device is named by its number, from 1, after it was declared
 abbrev pub IsDeclared : ℕ → ℕ → Type 0
@@ -25,6 +25,9 @@ IsFit count found (Note device) = (found ≡ true) × IsDeclared count device
 IsFit count found (Flush device) = (found ≡ true) × IsDeclared count device
 IsFit count found (Drain device) = (found ≡ true) × IsDeclared count device
 IsFit count found (Pull device) = (found ≡ true) × IsDeclared count device
+IsFit count found (Fetch device) = (found ≡ true) × IsDeclared count device
+IsFit count found (Settle device) = (found ≡ true) × IsDeclared count device
+IsFit count found (Resolve device) = (found ≡ true) × IsDeclared count device
 IsFit count found (Status device) = (found ≡ true) × IsDeclared count device
 IsFit count found (Fuse device steps) = IsDeclared count device
 IsFit count found (Power device pick) = (found ≡ true) × IsDeclared count device

@@ -4,7 +4,7 @@ use Rattle.std.specs.List.{list_any}
 use Rattle.std.specs.Str.{bytes_eq}
 use Rattle.kb_name.specs.Moments.{last_second}
 use Rattle.kb_script.specs.declared.verbs.Verb.{Verb}
-use Rattle.kb_script.specs.declared.verbs.Verb.TheVariants.{Seed, Device, Found, Grant, Revoke, At, Open, Pick, Land, Note, Flush, Drain, Pull, Status, Fuse, Power, Folder, Mkdir, Mkfile, Link, Remove, Move, Write, Cut, Chmod, Touch, Cat, Ls, Tree, Stat}
+use Rattle.kb_script.specs.declared.verbs.Verb.TheVariants.{Seed, Device, Found, Grant, Revoke, At, Open, Pick, Land, Note, Flush, Drain, Pull, Fetch, Settle, Resolve, Status, Fuse, Power, Folder, Mkdir, Mkfile, Link, Remove, Move, Write, Cut, Chmod, Touch, Cat, Ls, Tree, Stat}
 
 abbrev pub spelling : Verb → List ℕ
 spelling Seed = codes "seed"
@@ -20,6 +20,9 @@ spelling Note = codes "note"
 spelling Flush = codes "flush"
 spelling Drain = codes "drain"
 spelling Pull = codes "pull"
+spelling Fetch = codes "fetch"
+spelling Settle = codes "settle"
+spelling Resolve = codes "resolve"
 spelling Status = codes "status"
 spelling Fuse = codes "fuse"
 spelling Power = codes "power"
@@ -39,7 +42,7 @@ spelling Tree = codes "tree"
 spelling Stat = codes "stat"
 
 abbrev pub verbs : List Verb
-verbs = Seed ∷ Device ∷ Found ∷ Grant ∷ Revoke ∷ At ∷ Open ∷ Pick ∷ Land ∷ Note ∷ Flush ∷ Drain ∷ Pull ∷ Status ∷ Fuse ∷ Power ∷ Folder ∷ Mkdir ∷ Mkfile ∷ Link ∷ Remove ∷ Move ∷ Write ∷ Cut ∷ Chmod ∷ Touch ∷ Cat ∷ Ls ∷ Tree ∷ Stat ∷ []
+verbs = Seed ∷ Device ∷ Found ∷ Grant ∷ Revoke ∷ At ∷ Open ∷ Pick ∷ Land ∷ Note ∷ Flush ∷ Drain ∷ Pull ∷ Fetch ∷ Settle ∷ Resolve ∷ Status ∷ Fuse ∷ Power ∷ Folder ∷ Mkdir ∷ Mkfile ∷ Link ∷ Remove ∷ Move ∷ Write ∷ Cut ∷ Chmod ∷ Touch ∷ Cat ∷ Ls ∷ Tree ∷ Stat ∷ []
 
 -- the statement that a first word names
 abbrev pub verb_of : List ℕ → Option Verb
@@ -47,7 +50,7 @@ verb_of w = find (λ v. bytes_eq w (spelling v)) verbs
 
 -- the first words of statements that aren't built yet
 abbrev pub later_words : List (List ℕ)
-later_words = codes "fetch" ∷ codes "settle" ∷ codes "resolve" ∷ codes "verify" ∷ []
+later_words = codes "verify" ∷ []
 
 -- those of a block, which are no words where a block may not stand
 abbrev pub block_words : List (List ℕ)
@@ -92,6 +95,9 @@ forms Note = (OldDevice ∷ []) ∷ []
 forms Flush = (OldDevice ∷ []) ∷ []
 forms Drain = (OldDevice ∷ []) ∷ []
 forms Pull = (OldDevice ∷ []) ∷ []
+forms Fetch = (OldDevice ∷ []) ∷ []
+forms Settle = (OldDevice ∷ []) ∷ []
+forms Resolve = (OldDevice ∷ []) ∷ []
 forms Status = (OldDevice ∷ []) ∷ []
 forms Fuse = (OldDevice ∷ Number 0 last_u32 ∷ []) ∷ []
 forms Power = (OldDevice ∷ OneOf pick_words ∷ []) ∷ []
@@ -137,6 +143,9 @@ place Note = Behind
 place Flush = Behind
 place Drain = Behind
 place Pull = Behind
+place Fetch = Behind
+place Settle = Behind
+place Resolve = Behind
 place Status = Behind
 place Power = Behind
 place Folder = Behind

@@ -177,6 +177,42 @@ pub fn pull(seen: &Seen, words: &[&str]) -> Result<Statement, LineFault>
     Ok(Statement::Pull { device })
 }
 
+pub fn fetch(seen: &Seen, words: &[&str]) -> Result<Statement, LineFault>
+    ensures value { GivesLine (λ s. s) result (answer (known seen.now) Verb.Fetch (texts words.now)) }
+    ensures fit { IfOk result (λ s. IsFit (vec_len seen.now.devices) seen.now.found s) }
+{
+    if count(words) != 2 {
+        return Err(LineFault::Bad(Why::Count));
+    }
+    let device = device(seen, word(words, 1))?;
+    in_order(seen, Verb::Fetch)?;
+    Ok(Statement::Fetch { device })
+}
+
+pub fn settle(seen: &Seen, words: &[&str]) -> Result<Statement, LineFault>
+    ensures value { GivesLine (λ s. s) result (answer (known seen.now) Verb.Settle (texts words.now)) }
+    ensures fit { IfOk result (λ s. IsFit (vec_len seen.now.devices) seen.now.found s) }
+{
+    if count(words) != 2 {
+        return Err(LineFault::Bad(Why::Count));
+    }
+    let device = device(seen, word(words, 1))?;
+    in_order(seen, Verb::Settle)?;
+    Ok(Statement::Settle { device })
+}
+
+pub fn resolve(seen: &Seen, words: &[&str]) -> Result<Statement, LineFault>
+    ensures value { GivesLine (λ s. s) result (answer (known seen.now) Verb.Resolve (texts words.now)) }
+    ensures fit { IfOk result (λ s. IsFit (vec_len seen.now.devices) seen.now.found s) }
+{
+    if count(words) != 2 {
+        return Err(LineFault::Bad(Why::Count));
+    }
+    let device = device(seen, word(words, 1))?;
+    in_order(seen, Verb::Resolve)?;
+    Ok(Statement::Resolve { device })
+}
+
 pub fn status(seen: &Seen, words: &[&str]) -> Result<Statement, LineFault>
     ensures value { GivesLine (λ s. s) result (answer (known seen.now) Verb.Status (texts words.now)) }
     ensures fit { IfOk result (λ s. IsFit (vec_len seen.now.devices) seen.now.found s) }

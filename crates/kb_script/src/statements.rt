@@ -31,6 +31,12 @@ pub enum Statement {
     Drain { device: u16 },
     /// Makes the folder's last revision the device's own.
     Pull { device: u16 },
+    /// Keeps the folder's last revision as what the device's branch is to be merged into.
+    Fetch { device: u16 },
+    /// Merges the branch into what was fetched, and puts the merge.
+    Settle { device: u16 },
+    /// Fetches and settles.
+    Resolve { device: u16 },
     Status { device: u16 },
     /// Arms the device's disk: after so many further writes and syncs all fails.
     Fuse { device: u16, steps: u32 },

@@ -29,7 +29,7 @@ fn words(rt: HostRuntime) -> Result<(), Fail> {
     assert_eq!(rt; read(alloc, "\nmk d", false)?, (2, Some(Why::Word)));
     assert_eq!(rt; read(alloc, "par", false)?, (1, Some(Why::Word)));
     assert_eq!(rt; read(alloc, "par", true)?, (1, Some(Why::Later)));
-    assert_eq!(rt; read(alloc, "settle", false)?, (1, Some(Why::Later)));
+    assert_eq!(rt; read(alloc, "verify", false)?, (1, Some(Why::Later)));
     Ok(())
 }
 

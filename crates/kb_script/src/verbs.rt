@@ -17,6 +17,9 @@ pub enum Verb {
     Flush,
     Drain,
     Pull,
+    Fetch,
+    Settle,
+    Resolve,
     Status,
     Fuse,
     Power,
@@ -54,6 +57,9 @@ pub fn verb_of(word: &str) -> Option<Verb>
         "flush" => Some(Verb::Flush),
         "drain" => Some(Verb::Drain),
         "pull" => Some(Verb::Pull),
+        "fetch" => Some(Verb::Fetch),
+        "settle" => Some(Verb::Settle),
+        "resolve" => Some(Verb::Resolve),
         "status" => Some(Verb::Status),
         "fuse" => Some(Verb::Fuse),
         "power" => Some(Verb::Power),
@@ -80,7 +86,7 @@ pub fn is_later_word(live: bool, word: &str) -> bool
     ensures { result ≡ is_later_word live word.now }
 {
     match word {
-        "fetch" | "settle" | "resolve" | "verify" => true,
+        "verify" => true,
         "par" | "caller" | "flusher" | "end" => live,
         _ => false,
     }

@@ -8,7 +8,7 @@ use Rattle.kb_keys.specs.declared.policy.Role.TheVariants.{Writer, Reader}
 use Rattle.kb_keys.specs.declared.policy.Action.TheVariants as action
 use Rattle.kb_snap.specs.Rekeys.{grant_of}
 use Rattle.kb_script.specs.declared.statements.Statement.{Statement}
-use Rattle.kb_script.specs.declared.statements.Statement.TheVariants.{Seed, Device, Found, Grant, Revoke, At, Open, Pick, Land, Note, Flush, Drain, Pull, Status, Fuse, Power, Folder, File, Look}
+use Rattle.kb_script.specs.declared.statements.Statement.TheVariants.{Seed, Device, Found, Grant, Revoke, At, Open, Pick, Land, Note, Flush, Drain, Pull, Fetch, Settle, Resolve, Status, Fuse, Power, Folder, File, Look}
 use Rattle.kb_script.specs.Fit.{IsFit, AllFitFrom, declared_after, found_after}
 use Rattle.kb_world.specs.Statements.{Reply, Act, Turn, On, SetSeed, Declare, DoFound, DoRekey, SetMoment, See, ListChain}
 use Rattle.kb_world.specs.Statements as machine
@@ -142,6 +142,9 @@ module _ (s t : State) (count : ℕ) (found : Bool) (replies : List Reply) (was 
   after (Flush d) fit h = (turns_count (machine.Flush d) (λ before act e. staged d _ act e) [] s replies t h.0 ∙ was.0, founded found _ fit.0)
   after (Drain d) fit h = (turns_count (machine.Drain d) (λ before act e. staged d _ act e) [] s replies t h.0 ∙ was.0, founded found _ fit.0)
   after (Pull d) fit h = one_turn d machine.Pull fit.0 h
+  after (Fetch d) fit h = one_turn d machine.Fetch fit.0 h
+  after (Settle d) fit h = one_turn d machine.Settle fit.0 h
+  after (Resolve d) fit h = (turns_count (machine.Resolve d) (λ before act e. staged d _ act e) [] s replies t h.0 ∙ was.0, founded found _ fit.0)
   after (Status d) fit h = let one = once s (See d machine.Tell) replies t h in leaves _ one.step.state refl refl
   after (Fuse d steps) fit h =
       let one = once s (On d (machine.Fuse steps)) replies t h in
@@ -191,6 +194,9 @@ may_stand count true (Note d) fit = (fit.1, tt)
 may_stand count true (Flush d) fit = fit.1
 may_stand count true (Drain d) fit = fit.1
 may_stand count true (Pull d) fit = (fit.1, tt)
+may_stand count true (Fetch d) fit = (fit.1, tt)
+may_stand count true (Settle d) fit = (fit.1, tt)
+may_stand count true (Resolve d) fit = fit.1
 may_stand count true (Status d) fit = fit.1
 may_stand count true (Power d pick) fit = (fit.1, tt)
 may_stand count true Folder fit = tt

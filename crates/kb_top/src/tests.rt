@@ -1,5 +1,7 @@
 //! Whole runs over ends in memory.
+mod branches;
 mod scripts;
+mod stops;
 
 use crate::{Status, run_script, run_words};
 use kb_edge::{MemSink, MemSource};

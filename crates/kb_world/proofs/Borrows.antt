@@ -44,6 +44,7 @@ same_world w v devices seed moment folder names s h = (
   record {
     seed = h.seed ∙ sym seed;
     moment = h.moment ∙ sym moment;
+    rule = h.rule;
     folder = subst (λ f. HasChain seal_by_hmac sign_by_hmac sha256 s.seed names f s.chain) (sym folder) h.folder;
     fresh = λ none. folder ∙ h.fresh none;
     registered = ap (λ (f : Held). f.state.registered) folder ∙ h.registered;

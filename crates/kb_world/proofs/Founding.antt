@@ -81,6 +81,7 @@ module _ {M D : Type 0} {disks : Ghosts D} (w v : World M D disks) (begins : Beg
           record {
             seed = sym seed_is;
             moment = h.moment ∙ sym moment;
+            rule = h.rule;
             folder = subst (HasChain seal_by_hmac sign_by_hmac sha256 seed names (held v.folder)) (sym empty) (empty_chain begins seed names (held v.folder) bare);
             fresh = λ e. bare;
             registered = ap (λ (f : Held). f.state.registered) folder ∙ h.registered;
@@ -138,6 +139,7 @@ module _ {M D : Type 0} {disks : Ghosts D} (w v : World M D disks) (registers : 
         record {
           seed = h.seed ∙ sym seed;
           moment = h.moment ∙ sym moment;
+          rule = h.rule;
           folder = subst (λ k. HasChain seal_by_hmac sign_by_hmac sha256 s.seed names k s.chain) (sym same) chain;
           fresh = λ none. absurd (omega (arith, none, more));
           registered = ap (λ (k : Held). k.state.registered) same ∙ ap (λ k. k + 1) h.registered ∙ sym more;
@@ -168,6 +170,7 @@ module _ {M D : Type 0} {disks : Ghosts D} (w v : World M D disks) (folder : hel
         record {
           seed = h.seed ∙ sym seed;
           moment = sym moment_is;
+          rule = h.rule;
           folder = subst (λ f. HasChain seal_by_hmac sign_by_hmac sha256 s.seed names f s.chain) (sym folder) h.folder;
           fresh = λ none. folder ∙ h.fresh none;
           registered = ap (λ (f : Held). f.state.registered) folder ∙ h.registered;
@@ -182,6 +185,7 @@ pub starts : {M D : Type 0} {disks : Ghosts D} (w : World M D disks) → BeginsE
 starts w begins seed moment none bare names = record {
   seed = sym seed;
   moment = sym moment;
+  rule = refl;
   folder = empty_chain begins (replicate 32 0) names (held w.folder) bare;
   fresh = λ e. bare;
   registered = ap (λ (f : Held). f.state.registered) bare;
@@ -266,6 +270,7 @@ module _ {M D : Type 0} {disks : Ghosts D} (w v : World M D disks) (d : ℕ) (nu
         record {
           seed = h.seed ∙ sym seed;
           moment = h.moment ∙ sym moment;
+          rule = h.rule;
           folder = folder;
           fresh = λ e. absurd (let low = may.0.0 in let high = may.0.1 in omega (arith, e, low, high));
           registered = founded.3 ∙ h.registered;

@@ -30,3 +30,5 @@ pub mod Recounts
 pub mod Unchanged
 pub mod Borrows
 pub mod WorldChain
+pub mod BranchTurns
+pub mod BranchWorlds

@@ -97,6 +97,7 @@ module _ {M D : Type 0} {disks : Ghosts D} (w v : World M D disks) (by : ℕ) (a
         record {
           seed = h.seed ∙ sym seed;
           moment = h.moment ∙ sym moment;
+          rule = h.rule;
           folder = to.3;
           fresh = λ none. absurd (let low = writer.0 in let high = writer.1 in let n = h.count in omega (arith, none, low, high, n));
           registered = registered_kept (held w.folder) (held v.folder) to.2 ∙ h.registered;

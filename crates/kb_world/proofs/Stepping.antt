@@ -52,6 +52,14 @@ module _ {M D : Type 0} {disks : Ghosts D} (w v : World M D disks) (given : scri
   drain_ends d is (Ok lines) goes = goes
   drain_ends d is (Err e) goes = along_ends (said.Drain d) is goes
 
+  pub resolve_does : (d : ℕ) → given ≡ said.Resolve d → {E : Type 0} (r : Result (Vec Line Global) E) → IfOk r (λ lines. GoesOn w v (λ names s t. Does names s (said.Resolve d) lines.items t)) → IfOk r (λ lines. DoesOn w v given (λ names s t. Does names s given lines.items t))
+  resolve_does d is (Ok lines) goes = as_given w v given (said.Resolve d) is (λ st names s t. Does names s st lines.items t) (λ names s h may. goes names s h)
+  resolve_does d is (Err e) goes = goes
+
+  pub resolve_ends : (d : ℕ) → given ≡ said.Resolve d → {T E : Type 0} (r : Result T E) → OnErr r (GoesOn w v (λ names s t. Ends s (statements.Resolve d) t)) → OnErr r (DoesOn w v given (λ names s t. Ends s (statement_of given) t))
+  resolve_ends d is (Ok lines) goes = goes
+  resolve_ends d is (Err e) goes = along_ends (said.Resolve d) is goes
+
 module _ {M D : Type 0} {disks : Ghosts D} (w : World M D disks) (given : script.Statement) where
   pub folder_does : given ≡ said.Folder → {E : Type 0} (r : Result (Vec Line Global) E) → IfOk r (λ lines. (names : Names) (s : State) → WorldStands names w s → lines.items ≡ printed names 0 (statements.Lists s.chain)) → IfOk r (λ lines. DoesOn w w given (λ names s t. Does names s given lines.items t))
   folder_does is (Ok lines) lists = as_given w w given said.Folder is (λ st names s t. Does names s st lines.items t) (λ names s h may. (

@@ -42,6 +42,7 @@ module _ {M D : Type 0} {disks : Ghosts D} (w v : World M D disks) (seed : v.see
     record {
       seed = h.seed ∙ sym seed;
       moment = h.moment ∙ sym moment;
+      rule = h.rule;
       folder = subst (λ f. HasChain seal_by_hmac sign_by_hmac sha256 s.seed names f s.chain) (sym folder) h.folder;
       fresh = λ none. folder ∙ h.fresh none;
       registered = ap (λ (f : Held). f.state.registered) folder ∙ h.registered;
@@ -64,6 +65,7 @@ module _ {M D : Type 0} {disks : Ghosts D} (w : World M D disks) where
       record {
         seed = sym seed;
         moment = sym moment;
+        rule = refl;
         folder = record { back = []; turned = refl; stands = renamed (replicate 32 0) stands.0 names (held w.folder) has; limit = has.limit };
         fresh = λ e. h.fresh nobody;
         registered = h.registered ∙ nobody;

@@ -67,6 +67,7 @@ module _ {M D : Type 0} {disks : Ghosts D} (w v : World M D disks) (names : Name
       subst (WorldStands names v) (sym state) (record {
         seed = h.seed ∙ sym seed;
         moment = h.moment ∙ sym moment;
+        rule = h.rule;
         folder = folder;
         fresh = λ none. absurd (let e = h.count in omega (arith, none, many, some, e));
         registered = registered ∙ h.registered ∙ sym many;

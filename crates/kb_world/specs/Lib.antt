@@ -13,3 +13,4 @@ pub mod Turning
 pub mod Putting
 pub mod Listing
 pub mod Doing
+pub mod Branching

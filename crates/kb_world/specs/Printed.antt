@@ -16,13 +16,13 @@ use Rattle.kb_lines.specs.declared.lines.Line.TheVariants as line
 use Rattle.kb_lines.specs.declared.reasons.Reason.{Reason}
 use Rattle.kb_lines.specs.declared.reasons.Reason.TheVariants as reason
 use Rattle.kb_rules.specs.declared.report.Report.{Report}
-use Rattle.kb_device.specs.Answers.{Called, CallFault, QueueFault, LookFault, Status, TellFault, PickFault, Noted, NoteFault, PullFault, FetchFault, OpenFault}
+use Rattle.kb_device.specs.Answers.{Called, CallFault, QueueFault, LookFault, Status, TellFault, PickFault, Noted, NoteFault, PullFault, FetchFault, SettleFault, OpenFault}
 use Rattle.kb_snap.specs.Answers.{PutFault, RekeyFault}
 use Rattle.kb_device.specs.Answers as says
 use Rattle.kb_snap.specs.Answers as folder_says
 use Rattle.kb_snap.specs.Chains.{Deed, Founded, Stepped, Merged, Rekeyed, Revision, Chain, seq_of_last}
 use Rattle.kb_snap.specs.Members.{generation_of}
-use Rattle.kb_world.specs.Statements.{LandFault, Reply, Silent, Off, ByRekey, ByCall, ByLook, ByStatus, ByPick, ByLand, ByNote, ByPull, ByFetch, ByOpen, Lists}
+use Rattle.kb_world.specs.Statements.{LandFault, Reply, Silent, Off, ByRekey, ByCall, ByLook, ByStatus, ByPick, ByLand, ByNote, ByPull, ByFetch, BySettle, ByOpen, Lists}
 use Rattle.kb_world.specs.Statements as statements
 use Rattle.kb_folder.specs.Chains.{Names}
 
@@ -118,6 +118,21 @@ pulled_line name (Err says.PullFault.NotMember) = line.Refused name reason.NotMe
 pulled_line name (Err says.PullFault.Unflushed) = line.Refused name reason.Unflushed
 pulled_line name (Err says.PullFault.Stopped) = line.Refused name reason.Stopped
 
+abbrev pub fetched_line : List ℕ → Result ℕ FetchFault → Line
+fetched_line name (Ok n) = line.Fetched name n
+fetched_line name (Err says.FetchFault.Closed) = line.Refused name reason.Closed
+fetched_line name (Err says.FetchFault.NotMember) = line.Refused name reason.NotMember
+fetched_line name (Err says.NoBranch) = line.Refused name reason.NoBranch
+
+-- a lost put has no line of its own before links are built
+abbrev pub settled_lines : List ℕ → Result (ℕ × Report) SettleFault → List Line
+settled_lines name (Ok merged) = line.Merged name merged.0 merged.1.copies merged.1.renamed merged.1.joined ∷ []
+settled_lines name (Err says.SettleFault.Closed) = line.Refused name reason.Closed ∷ []
+settled_lines name (Err says.NoPlan) = line.Refused name reason.NoPlan ∷ []
+settled_lines name (Err (says.SettleFault.LinkFault lost)) = []
+settled_lines name (Err (says.SettleFault.ByPut why)) = line.Refused name (put_reason why) ∷ []
+settled_lines name (Err says.SettleFault.Stopped) = line.Refused name reason.Stopped ∷ []
+
 abbrev pub opened_line : List ℕ → Result Status OpenFault → Line
 opened_line name (Ok status) = line.Opened name status.at status.queue status.last
 opened_line name (Err says.AlreadyOpen) = line.Refused name reason.AlreadyOpen
@@ -162,6 +177,8 @@ printed names d (ByPick answer) = picked_line (names d) answer ∷ []
 printed names d (ByLand answer) = landed_lines (names d) answer
 printed names d (ByNote answer) = noted_line (names d) answer ∷ []
 printed names d (ByPull answer) = pulled_line (names d) answer ∷ []
+printed names d (ByFetch answer) = fetched_line (names d) answer ∷ []
+printed names d (BySettle answer) = settled_lines (names d) answer
 printed names d (ByOpen answer) = opened_line (names d) answer ∷ []
 printed names d (Lists c) = line.Chain (length c) (generation_of c) ∷ revision_lines names 1 c
 printed names d reply = []

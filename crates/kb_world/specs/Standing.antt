@@ -8,7 +8,7 @@ use Rattle.kb_seal.specs.Sealing.{seal_by_hmac, sign_by_hmac}
 use Rattle.kb_blocks.specs.declared.hashing.BlockHash.{Ghosts as Hashes}
 use Rattle.kb_snap.specs.Chains.{Chain, most_revisions}
 use Rattle.kb_device.specs.Waits.{Waiting, Nothing, Asked, Answered}
-use Rattle.kb_world.specs.Machine.{Member, State}
+use Rattle.kb_world.specs.Machine.{first_rule, Member, State}
 use Rattle.kb_world.specs.Good.{IsGood}
 use Rattle.kb_folder.specs.Chains.{Names}
 use Rattle.kb_folder.specs.Puts.{Held}
@@ -49,6 +49,7 @@ module _ {M D : Type 0} {disks : Ghosts D} where
   pub record WorldStands (names : Names) (w : World M D disks) (s : State) : Type 0 where
     pub seed : s.seed ≡ w.seed
     pub moment : s.moment ≡ w.moment
+    pub rule : s.rule ≡ first_rule
     pub folder : HasChain seal_by_hmac sign_by_hmac sha256 s.seed names (held w.folder) s.chain
     pub fresh : length s.members ≡ 0 → held w.folder ≡ empty_folder most_revisions
     pub registered : (held w.folder).state.registered ≡ length s.members

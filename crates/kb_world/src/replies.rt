@@ -14,17 +14,24 @@ ghost use Rattle.kb_world.specs.Printed.{plan_reason, show_reason, called_line, 
 ghost use Rattle.kb_world.specs.Turning.{IsLanding, IsLand};
 ghost use Rattle.kb_world.specs.Putting.{IsReason};
 ghost use Rattle.kb_world.specs.declared.replies.LandFault.TheVariants as land;
+ghost use Rattle.kb_rules.specs.declared.report.Report as reports;
+ghost use Rattle.kb_device.specs.Answers as says;
+ghost use Rattle.kb_device.specs.declared.fetched.FetchFault.TheVariants as fetch;
+ghost use Rattle.kb_world.specs.Printed.{fetched_line, settled_lines};
+ghost use Rattle.kb_world.specs.Branching.{told_fetch, IsFetch, IsFetched, IsSettling, IsSettled, LacksSettle};
 
 use kb_apply::ShowFault;
 use kb_chain::PutRefusal;
 use kb_device::{
-    CallFault, Called, Closed, LookFault, NoteFault, Noted, OpenFault, PickFault, PullFault, Status,
+    CallFault, Called, Closed, FetchFault, LookFault, NoteFault, Noted, OpenFault, PickFault,
+    PullFault, SettleFault, Status,
 };
 use kb_edge::Memory;
 use kb_lines::{Line, Reason};
 use kb_name::DeviceName;
 use kb_ops::{PlanFault, Shown};
 use kb_rekey::RekeyFault;
+use kb_rules::Report;
 
 /// Why nothing is landed.
 #[derive(Clone, Copy, Debug, PartialEq, Eq)]
@@ -244,6 +251,50 @@ pub fn opened_line(device: DeviceName, answer: Result<Status, OpenFault>) -> Res
         Err(OpenFault::Foreign { known: _ }) => Ok(refused(device, Reason::Foreign)),
         Err(OpenFault::BadFolder { number: _ }) => Ok(refused(device, Reason::BadFolder)),
         Err(OpenFault::Memory) => Err(Memory),
+    }
+}
+
+/// The line of a fetch, unless memory ran out.
+pub fn fetched_line(device: DeviceName, answer: Result<u32, FetchFault>) -> Result<Line, Memory>
+    ensures line { IfOk result (λ line. IsFetch answer → line ≡ fetched_line device (told_fetch answer)) }
+    ensures answer { OnOk result (IsFetched answer) }
+    ensures memory { OnErr result (answer ≡ Err fetch.Memory) }
+{
+    match answer {
+        Ok(revision) => Ok(Line::Fetched { device, revision }),
+        Err(FetchFault::Closed) => Ok(refused(device, Reason::Closed)),
+        Err(FetchFault::NotMember) => Ok(refused(device, Reason::NotMember)),
+        Err(FetchFault::NoBranch) => Ok(refused(device, Reason::NoBranch)),
+        Err(FetchFault::BadFolder { number: _ }) => Ok(refused(device, Reason::BadFolder)),
+        Err(FetchFault::Memory) => Err(Memory),
+    }
+}
+
+/// The line of a settle, unless memory ran out.
+pub fn settled_line(
+    device: DeviceName,
+    answer: Result<(u32, Report), SettleFault>,
+) -> Result<Line, Memory>
+    ensures line { IfOk result (λ line. (told : Result (ℕ × reports.Report) says.SettleFault) → IsSettling answer told → settled_lines device told ≡ line ∷ []) }
+    ensures answer { OnOk result (IsSettled answer) }
+    ensures memory { OnErr result (LacksSettle answer) }
+{
+    match answer {
+        Ok((revision, report)) => Ok(Line::Merged {
+            device,
+            revision,
+            copies: u64::from(report.copies),
+            renamed: report.renamed,
+            joined: report.joined,
+        }),
+        Err(SettleFault::Closed) => Ok(refused(device, Reason::Closed)),
+        Err(SettleFault::NoPlan) => Ok(refused(device, Reason::NoPlan)),
+        Err(SettleFault::Memory) => Err(Memory),
+        Err(SettleFault::ByPut(why)) => {
+            let reason = put_reason(why)?;
+            Ok(refused(device, reason))
+        }
+        Err(SettleFault::Stopped) => Ok(refused(device, Reason::Stopped)),
     }
 }
 

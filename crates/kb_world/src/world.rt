@@ -3,20 +3,21 @@ ghost use Rattle.std.specs.Prelude.{◌≡◌, ◌∷◌, ◌++◌, ◌+◌, ◌
 ghost use Rattle.std.specs.Vec.{vec_capacity};
 ghost use Rattle.kb_lines.specs.declared.lines.Line.TheVariants as shown;
 ghost use Rattle.kb_world.specs.Statements as statements;
-ghost use Rattle.kb_world.specs.Machine.{most_devices, State, new_state, ActStep, Lacks, Ends, flush_stage, drain_stage, ToPick, ToLand, ToNote};
+ghost use Rattle.kb_world.specs.Machine.{most_devices, State, new_state, ActStep, Lacks, Ends, flush_stage, drain_stage, resolve_stage, ToPick, ToLand, ToNote, ToSettle};
 ghost use Rattle.kb_folder.specs.Chains.{Names};
 ghost use Rattle.kb_folder.specs.Held.{held};
 ghost use Rattle.kb_keys.specs.declared.policy.Action.TheVariants as action;
 ghost use Rattle.kb_snap.specs.Rekeys.{grant_of};
 ghost use Rattle.kb_script.specs.declared.statements.Statement.TheVariants as statement;
 ghost use Rattle.kb_world.specs.Doing.{is_picked, is_noted};
+ghost use Rattle.kb_world.specs.Branching.{is_fetched};
 ghost use Rattle.kb_world.specs.Printed.{printed};
 
 use crate::declared::{Declared, Waiting};
 use crate::listing::chain_lines;
 use crate::replies::{
-    called_line, landed_line, noted_line, opened_line, picked_line, pulled_line, rekeyed_line,
-    shown_line, told_line,
+    called_line, fetched_line, landed_line, noted_line, opened_line, picked_line, pulled_line,
+    rekeyed_line, settled_line, shown_line, told_line,
 };
 use kb_blocks::Sha256Hash;
 use kb_device::{Device, landing_law, longer_law};
@@ -27,6 +28,7 @@ use kb_lines::Line;
 use kb_name::{DeviceName, Moment};
 use kb_ops::{Request, Show};
 use kb_rekey::{found, grant, rekey_law, revoke};
+use kb_resolver::few_are_split;
 use kb_script::Statement;
 use kb_seal::{HmacSealer, Key};
 use std::alloc::Global;
@@ -75,6 +77,12 @@ fn is_noted(line: &Line) -> bool
     ensures { result ≡ is_noted line.now }
 {
     matches!(line, Line::Noted { .. })
+}
+
+fn is_fetched(line: &Line) -> bool
+    ensures { result ≡ is_fetched line.now }
+{
+    matches!(line, Line::Fetched { .. })
 }
 
 impl<M: DiskMaker> World<M> {
@@ -398,6 +406,59 @@ impl<M: DiskMaker> World<M> {
         self.moment = moment;
     }
 
+    // Fetches what a device's branch is to be merged into.
+    fn fetch(&mut self, number: u16) -> Result<Line, Memory>
+        requires stands { IsStanding self.old }
+        requires declared { IsOneOf (device_count self.old) number }
+        ensures step { IfOk result (λ line. GoesOn self.old self.new (λ names s t. Tells names number s (statements.On number statements.Fetch) line (λ reply. resolve_stage (Some reply) ≡ stage_if (is_fetched line) ToSettle) t)) }
+        ensures memory { OnErr result (GoesOn self.old self.new (λ names s t. t ≡ s)) }
+        ensures count { device_count self.new ≡ device_count self.old }
+    {
+        let name = self.name_of(number)?;
+        let declared = &mut self.devices[number as usize - 1];
+        let answer = declared.fetch(self.alloc, &self.folder);
+        let line = fetched_line(name, answer)?;
+        Ok(line)
+    }
+
+    // Merges a device's branch into what was fetched, and settles it.
+    fn settle(&mut self, number: u16) -> Result<Line, Memory>
+        requires stands { IsStanding self.old }
+        requires declared { IsOneOf (device_count self.old) number }
+        ensures step { IfOk result (λ line. GoesOn self.old self.new (λ names s t. Tells names number s (statements.On number statements.Settle) line (λ reply. resolve_stage (Some reply) ≡ None) t)) }
+        ensures memory { OnErr result (GoesOn self.old self.new (λ names s t. t ≡ s)) }
+        ensures count { device_count self.new ≡ device_count self.old }
+    {
+        let name = self.name_of(number)?;
+        let declared = &mut self.devices[number as usize - 1];
+        machine_law::<HmacSealer, Sha256Hash>();
+        longer_law::<HmacSealer, Sha256Hash>();
+        landing_law::<HmacSealer, Sha256Hash>();
+        few_are_split();
+        let answer = declared.settle(self.alloc, &mut self.folder, number, self.moment);
+        let line = settled_line(name, answer)?;
+        Ok(line)
+    }
+
+    // Fetches and settles; where the fetch is refused, it alone.
+    fn resolve(&mut self, number: u16) -> Result<Vec<Line>, Memory>
+        requires stands { IsStanding self.old }
+        requires declared { IsOneOf (device_count self.old) number }
+        ensures step { IfOk result (λ lines. GoesOn self.old self.new (λ names s t. Does names s (statement.Resolve number) lines.items t)) }
+        ensures memory { OnErr result (GoesOn self.old self.new (λ names s t. Ends s (statements.Resolve number) t)) }
+    {
+        let mut lines = Vec::with_capacity(self.alloc, 2)?;
+        let first = self.fetch(number)?;
+        let fetched = is_fetched(&first);
+        lines.push_reserved(first);
+        if !fetched {
+            return Ok(lines);
+        }
+        let second = self.settle(number)?;
+        lines.push_reserved(second);
+        Ok(lines)
+    }
+
     /// Does a statement, and answers its lines. Where memory runs out, the world is as before the part that lacked it, but
     /// that an opening may have used one step of its device's disk.
     #[tactic(none)]
@@ -458,6 +519,15 @@ impl<M: DiskMaker> World<M> {
                 let line = self.pull(*device)?;
                 Ok(one_line(room, line))
             }
+            Statement::Fetch { device } => {
+                let line = self.fetch(*device)?;
+                Ok(one_line(room, line))
+            }
+            Statement::Settle { device } => {
+                let line = self.settle(*device)?;
+                Ok(one_line(room, line))
+            }
+            Statement::Resolve { device } => self.resolve(*device),
             Statement::Status { device } => {
                 let line = self.tell(*device)?;
                 Ok(one_line(room, line))

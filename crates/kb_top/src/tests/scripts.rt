@@ -7,7 +7,7 @@ use std::alloc::Global;
 use std::test::Fail;
 
 // Whether a script runs to its end and prints this.
-fn runs(alloc: Global, script: &str, text: &str) -> Result<bool, Fail> {
+pub fn runs(alloc: Global, script: &str, text: &str) -> Result<bool, Fail> {
     let bytes = script.as_bytes().to_vec(alloc)?;
     let mut source = MemSource::new(bytes, 65_536, Vec::new(alloc));
     let Ok(mut sink) = MemSink::new(alloc, 131_072, Vec::new(alloc)) else {

@@ -5,7 +5,8 @@ use Rattle.kb_script.specs.declared.statements.Statement.TheVariants as said
 use Rattle.kb_world.specs.Statements as statements
 use Rattle.kb_world.proofs.Worlds.{on_err}
 use Rattle.kb_world.proofs.Rounds.{one_part, one_silent, one_lacks, one_lacks_part, still, PickSays, LandSays, NoteSays}
-use Rattle.kb_world.proofs.Stepping.{stands_then, may_then, declared_then, along_ends, flush_does, drain_does, drain_ends, folder_does, folder_ends}
+use Rattle.kb_world.proofs.BranchWorlds.{FetchSays, SettleSays}
+use Rattle.kb_world.proofs.Stepping.{stands_then, may_then, declared_then, along_ends, flush_does, drain_does, drain_ends, resolve_does, resolve_ends, folder_does, folder_ends}
 use Rattle.kb_world.proofs.world.World.step.Goals as goal
 
 pub returns-in_err-room-clause-step : goal.returns-in_err-room-clause-step
@@ -200,6 +201,48 @@ one_line-requires-in-Pull-clause-room g c = c.in_ok-room.ensures.room
 pub returns-in_ok-line-in-Pull-clause-step : goal.returns-in_ok-line-in-Pull-clause-step
 returns-in_ok-line-in-Pull-clause-step g c = one_part c.args.self.now c.pull.new.self c.args.statement.now (said.Pull c.in-Pull.device) c.in-Pull.is c.in-Pull.device (statements.On c.in-Pull.device statements.Pull) (λ reply. Unit {0}) c.in_ok-line-in-Pull.line c.one_line-in-Pull.result.items refl refl c.one_line-in-Pull.ensures (λ names s h may. c.in_ok-line-in-Pull.ensures.step names s h)
 
+pub fetch-requires-clause-stands : goal.fetch-requires-clause-stands
+fetch-requires-clause-stands g c = stands_then c.args.self.now c.args.statement.now (said.Fetch c.in-Fetch.device) c.in-Fetch.is c.requires
+
+pub fetch-requires-clause-declared : goal.fetch-requires-clause-declared
+fetch-requires-clause-declared g c = declared_then c.args.self.now c.args.statement.now (said.Fetch c.in-Fetch.device) c.in-Fetch.is c.requires c.in-Fetch.device (λ may. may)
+
+pub returns-in_err-line-in-Fetch-clause-step : goal.returns-in_err-line-in-Fetch-clause-step
+returns-in_err-line-in-Fetch-clause-step g c = search rules
+
+pub returns-in_err-line-in-Fetch-clause-memory : goal.returns-in_err-line-in-Fetch-clause-memory
+returns-in_err-line-in-Fetch-clause-memory g c = on_err c.from_residual-in_err-line-in-Fetch.result (one_lacks c.args.self.now c.fetch.new.self c.args.statement.now (said.Fetch c.in-Fetch.device) c.in-Fetch.is (λ names s h may. c.in_err-line-in-Fetch.ensures.memory names s h))
+
+pub one_line-requires-in-Fetch-clause-empty : goal.one_line-requires-in-Fetch-clause-empty
+one_line-requires-in-Fetch-clause-empty g c = c.in_ok-room.ensures.empty
+
+pub one_line-requires-in-Fetch-clause-room : goal.one_line-requires-in-Fetch-clause-room
+one_line-requires-in-Fetch-clause-room g c = c.in_ok-room.ensures.room
+
+pub returns-in_ok-line-in-Fetch-clause-step : goal.returns-in_ok-line-in-Fetch-clause-step
+returns-in_ok-line-in-Fetch-clause-step g c = one_part c.args.self.now c.fetch.new.self c.args.statement.now (said.Fetch c.in-Fetch.device) c.in-Fetch.is c.in-Fetch.device (statements.On c.in-Fetch.device statements.Fetch) (FetchSays c.in_ok-line-in-Fetch.line) c.in_ok-line-in-Fetch.line c.one_line-in-Fetch.result.items refl refl c.one_line-in-Fetch.ensures (λ names s h may. c.in_ok-line-in-Fetch.ensures.step names s h)
+
+pub settle-requires-clause-stands : goal.settle-requires-clause-stands
+settle-requires-clause-stands g c = stands_then c.args.self.now c.args.statement.now (said.Settle c.in-Settle.device) c.in-Settle.is c.requires
+
+pub settle-requires-clause-declared : goal.settle-requires-clause-declared
+settle-requires-clause-declared g c = declared_then c.args.self.now c.args.statement.now (said.Settle c.in-Settle.device) c.in-Settle.is c.requires c.in-Settle.device (λ may. may)
+
+pub returns-in_err-line-in-Settle-clause-step : goal.returns-in_err-line-in-Settle-clause-step
+returns-in_err-line-in-Settle-clause-step g c = search rules
+
+pub returns-in_err-line-in-Settle-clause-memory : goal.returns-in_err-line-in-Settle-clause-memory
+returns-in_err-line-in-Settle-clause-memory g c = on_err c.from_residual-in_err-line-in-Settle.result (one_lacks c.args.self.now c.settle.new.self c.args.statement.now (said.Settle c.in-Settle.device) c.in-Settle.is (λ names s h may. c.in_err-line-in-Settle.ensures.memory names s h))
+
+pub one_line-requires-in-Settle-clause-empty : goal.one_line-requires-in-Settle-clause-empty
+one_line-requires-in-Settle-clause-empty g c = c.in_ok-room.ensures.empty
+
+pub one_line-requires-in-Settle-clause-room : goal.one_line-requires-in-Settle-clause-room
+one_line-requires-in-Settle-clause-room g c = c.in_ok-room.ensures.room
+
+pub returns-in_ok-line-in-Settle-clause-step : goal.returns-in_ok-line-in-Settle-clause-step
+returns-in_ok-line-in-Settle-clause-step g c = one_part c.args.self.now c.settle.new.self c.args.statement.now (said.Settle c.in-Settle.device) c.in-Settle.is c.in-Settle.device (statements.On c.in-Settle.device statements.Settle) SettleSays c.in_ok-line-in-Settle.line c.one_line-in-Settle.result.items refl refl c.one_line-in-Settle.ensures (λ names s h may. c.in_ok-line-in-Settle.ensures.step names s h)
+
 pub cut-requires : goal.cut-requires
 cut-requires g c = declared_then c.args.self.now c.args.statement.now (said.Power c.in-Power.device c.in-Power.pick) c.in-Power.is c.requires c.in-Power.device (λ may. may)
 
@@ -289,6 +332,18 @@ returns-in_err-flush-in-Flush-clause-memory g c = on_err c.from_residual-in_err-
 
 pub returns-in_ok-flush-in-Flush-clause-step : goal.returns-in_ok-flush-in-Flush-clause-step
 returns-in_ok-flush-in-Flush-clause-step g c = flush_does c.args.self.now c.flush.new.self c.args.statement.now c.in-Flush.device c.in-Flush.is c.in_ok-flush-in-Flush.field-0 c.in_ok-room.room.items c.flush.new.lines.items c.in_ok-room.ensures.empty c.in_ok-flush-in-Flush.ensures.step
+
+pub resolve-requires-clause-stands : goal.resolve-requires-clause-stands
+resolve-requires-clause-stands g c = stands_then c.args.self.now c.args.statement.now (said.Resolve c.in-Resolve.device) c.in-Resolve.is c.requires
+
+pub resolve-requires-clause-declared : goal.resolve-requires-clause-declared
+resolve-requires-clause-declared g c = declared_then c.args.self.now c.args.statement.now (said.Resolve c.in-Resolve.device) c.in-Resolve.is c.requires c.in-Resolve.device (λ may. may)
+
+pub returns-in-Resolve-clause-step : goal.returns-in-Resolve-clause-step
+returns-in-Resolve-clause-step g c = resolve_does c.args.self.now c.resolve.new.self c.args.statement.now c.in-Resolve.device c.in-Resolve.is c.resolve.result c.resolve.ensures.step
+
+pub returns-in-Resolve-clause-memory : goal.returns-in-Resolve-clause-memory
+returns-in-Resolve-clause-memory g c = resolve_ends c.args.self.now c.resolve.new.self c.args.statement.now c.in-Resolve.device c.in-Resolve.is c.resolve.result c.resolve.ensures.memory
 
 pub drain-requires-clause-stands : goal.drain-requires-clause-stands
 drain-requires-clause-stands g c = stands_then c.args.self.now c.args.statement.now (said.Drain c.in-Drain.device) c.in-Drain.is c.requires
