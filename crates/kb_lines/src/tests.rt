@@ -1,4 +1,4 @@
-use super::{Answer, Asked, Did, Line, Reason, render};
+use super::{Answer, Asked, Line, Reason, render};
 use kb_name::{DeviceName, Moment, Name, NodeId};
 use kb_ops::{Bytes, Kind, Names, Placed, PlacedRows, Request, Row, Rows, Word};
 use std::alloc::Global;
@@ -46,13 +46,6 @@ fn is_shown(alloc: Global, line: Line, text: &str) -> Result<bool, Fail> {
 #[test]
 fn replies(rt: HostRuntime) -> Result<(), Fail> {
     let alloc = rt.alloc();
-    let line = Line::FolderAt { revision: 1 };
-    assert!(rt; is_shown(alloc, line, "folder: at 1\n")?);
-    let device = laptop(alloc)?;
-    let line = Line::Done { device, seq: 12 };
-    assert!(rt; is_shown(alloc, line, "laptop: done 12\n")?);
-    let device = laptop(alloc)?;
-    assert!(rt; is_shown(alloc, Line::Same { device }, "laptop: same\n")?);
     let line = Line::Opened {
         device: laptop(alloc)?,
         at: 1,
@@ -93,21 +86,8 @@ fn rows(rt: HostRuntime) -> Result<(), Fail> {
 }
 
 #[test]
-fn stats(rt: HostRuntime) -> Result<(), Fail> {
-    let alloc = rt.alloc();
-    let row = row(alloc, "f", Kind::File, "xyz", false)?;
-    let device = laptop(alloc)?;
-    let text = "laptop: stat f 1.7.0 size 3 exec - mtime 0\n";
-    assert!(rt; is_shown(alloc, Line::Stat { device, row }, text)?);
-    Ok(())
-}
-
-#[test]
 fn refusals(rt: HostRuntime) -> Result<(), Fail> {
     let alloc = rt.alloc();
-    let reason = Reason::NotWriter;
-    let line = Line::FolderRefused { reason };
-    assert!(rt; is_shown(alloc, line, "folder: refused NotWriter\n")?);
     let line = Line::Refused {
         device: laptop(alloc)?,
         reason: Reason::Full {
@@ -116,11 +96,6 @@ fn refusals(rt: HostRuntime) -> Result<(), Fail> {
         },
     };
     assert!(rt; is_shown(alloc, line, "laptop: refused Full 2041 2040\n")?);
-    let line = Line::Refused {
-        device: laptop(alloc)?,
-        reason: Reason::Stale { length: 4 },
-    };
-    assert!(rt; is_shown(alloc, line, "laptop: refused Stale 4\n")?);
     let line = Line::Refused {
         device: laptop(alloc)?,
         reason: Reason::Collision { id: [0xab; 32] },
@@ -132,112 +107,12 @@ fn refusals(rt: HostRuntime) -> Result<(), Fail> {
 }
 
 #[test]
-fn flights(rt: HostRuntime) -> Result<(), Fail> {
+fn kept_and_whole(rt: HostRuntime) -> Result<(), Fail> {
     let alloc = rt.alloc();
-    let line = Line::Picked {
-        device: laptop(alloc)?,
-        seq: 1,
-        revision: 2,
-    };
-    assert!(rt; is_shown(alloc, line, "laptop: picked 1 as 2\n")?);
-    let revision = 2;
-    let device = laptop(alloc)?;
-    let line = Line::Landed { device, revision };
-    assert!(rt; is_shown(alloc, line, "laptop: landed 2\n")?);
-    let device = laptop(alloc)?;
-    let line = Line::Noted { device, revision };
-    assert!(rt; is_shown(alloc, line, "laptop: noted 2\n")?);
-    let device = laptop(alloc)?;
-    let line = Line::BranchedAt { device, revision };
-    assert!(rt; is_shown(alloc, line, "laptop: branched at 2\n")?);
     let device = laptop(alloc)?;
     assert!(rt; is_shown(alloc, Line::Kept { device }, "laptop: kept\n")?);
-    Ok(())
-}
-
-#[test]
-fn branches(rt: HostRuntime) -> Result<(), Fail> {
-    let alloc = rt.alloc();
-    let revision = 5;
-    let device = laptop(alloc)?;
-    assert!(rt; is_shown(alloc, Line::At { device, revision }, "laptop: at 5\n")?);
-    let device = laptop(alloc)?;
-    let line = Line::Fetched { device, revision };
-    assert!(rt; is_shown(alloc, line, "laptop: fetched 5\n")?);
-    let line = Line::Merged {
-        device: laptop(alloc)?,
-        revision,
-        copies: 1,
-        renamed: 2,
-        joined: 3,
-    };
-    let text = "laptop: merged 5 copies 1 renamed 2 joined 3\n";
-    assert!(rt; is_shown(alloc, line, text)?);
-    let line = Line::Status {
-        device: laptop(alloc)?,
-        at: 2,
-        queue: 1,
-        last: 3,
-        branched: false,
-        flight: false,
-    };
-    let text = "laptop: status at 2 queue 1 last 3 merged idle\n";
-    assert!(rt; is_shown(alloc, line, text)?);
-    let device = laptop(alloc)?;
-    assert!(rt; is_shown(alloc, Line::Off { device }, "laptop: off\n")?);
-    Ok(())
-}
-
-#[test]
-fn chains(rt: HostRuntime) -> Result<(), Fail> {
-    let alloc = rt.alloc();
-    let line = Line::Chain {
-        revisions: 3,
-        generation: 2,
-    };
-    let text = "folder: 3 revisions generation 2\n";
-    assert!(rt; is_shown(alloc, line, text)?);
     let line = Line::Whole { revisions: 3 };
     assert!(rt; is_shown(alloc, line, "folder: whole 3\n")?);
-    let device = laptop(alloc)?;
-    let did = Did::Found { device };
-    let line = Line::Revision { number: 1, did };
-    assert!(rt; is_shown(alloc, line, "1 found laptop\n")?);
-    let device = laptop(alloc)?;
-    let did = Did::Step { device, seq: 4 };
-    let line = Line::Revision { number: 2, did };
-    assert!(rt; is_shown(alloc, line, "2 step laptop 4\n")?);
-    let did = Did::Merge {
-        device: laptop(alloc)?,
-        first: 5,
-        last: 6,
-    };
-    let line = Line::Revision { number: 3, did };
-    assert!(rt; is_shown(alloc, line, "3 merge laptop 5 6\n")?);
-    Ok(())
-}
-
-#[test]
-fn rekeys(rt: HostRuntime) -> Result<(), Fail> {
-    let alloc = rt.alloc();
-    let did = Did::GrantWriter {
-        by: laptop(alloc)?,
-        device: laptop(alloc)?,
-    };
-    let line = Line::Revision { number: 1, did };
-    assert!(rt; is_shown(alloc, line, "1 grant laptop laptop writer\n")?);
-    let did = Did::GrantReader {
-        by: laptop(alloc)?,
-        device: laptop(alloc)?,
-    };
-    let line = Line::Revision { number: 2, did };
-    assert!(rt; is_shown(alloc, line, "2 grant laptop laptop reader\n")?);
-    let did = Did::Revoke {
-        by: laptop(alloc)?,
-        device: laptop(alloc)?,
-    };
-    let line = Line::Revision { number: 3, did };
-    assert!(rt; is_shown(alloc, line, "3 revoke laptop laptop\n")?);
     Ok(())
 }
 
