@@ -1,6 +1,7 @@
 pub mod LinesRead
 pub mod NumbersRead
 pub mod DevicesNamed
+pub mod DevicesNew
 pub mod TextsRead
 pub mod EarlierKept
 pub mod AnswersRead

@@ -20,7 +20,7 @@ pub fn fresh(alloc: Global, seen: &Seen, word: &str) -> Result<DeviceName, LineF
         Err(NameFault::BadName) => return Err(LineFault::Bad(Why::Name)),
         Err(NameFault::Memory) => return Err(LineFault::Memory),
     };
-    if is_declared(seen, word.as_bytes()) {
+    if is_declared(seen, word) {
         return Err(LineFault::Bad(Why::Device));
     }
     Ok(name)

@@ -1,8 +1,8 @@
 //! What the words of a statement say. Each reader goes in the order of the reasons, and allocates last.
-ghost use Rattle.std.specs.Prelude.{◌≡◌, vec_len, IfOk};
+ghost use Rattle.std.specs.Prelude.{◌≡◌, IfOk};
 ghost use Rattle.kb_name.specs.Texts.{texts};
 ghost use Rattle.kb_script.specs.Fit.{IsFit};
-ghost use Rattle.kb_script.specs.Seen.{known};
+ghost use Rattle.kb_script.specs.Seen.{known, count_in};
 ghost use Rattle.kb_script.specs.Reasons.{answer};
 ghost use Rattle.kb_script.specs.Gives.{GivesLine};
 
@@ -19,7 +19,7 @@ use std::alloc::Global;
 
 pub fn seed(seen: &Seen, words: &[&str]) -> Result<Statement, LineFault>
     ensures value { GivesLine (λ s. s) result (answer (known seen.now) Verb.Seed (texts words.now)) }
-    ensures fit { IfOk result (λ s. IsFit (vec_len seen.now.devices) seen.now.found s) }
+    ensures fit { IfOk result (λ s. IsFit (count_in seen.now) seen.now.found s) }
 {
     if count(words) != 2 {
         return Err(LineFault::Bad(Why::Count));
@@ -31,7 +31,7 @@ pub fn seed(seen: &Seen, words: &[&str]) -> Result<Statement, LineFault>
 
 pub fn device_line(alloc: Global, seen: &Seen, words: &[&str]) -> Result<Statement, LineFault>
     ensures value { GivesLine (λ s. s) result (answer (known seen.now) Verb.Device (texts words.now)) }
-    ensures fit { IfOk result (λ s. IsFit (vec_len seen.now.devices) seen.now.found s) }
+    ensures fit { IfOk result (λ s. IsFit (count_in seen.now) seen.now.found s) }
 {
     if count(words) != 3 {
         return Err(LineFault::Bad(Why::Count));
@@ -44,7 +44,7 @@ pub fn device_line(alloc: Global, seen: &Seen, words: &[&str]) -> Result<Stateme
 
 pub fn found(seen: &Seen, words: &[&str]) -> Result<Statement, LineFault>
     ensures value { GivesLine (λ s. s) result (answer (known seen.now) Verb.Found (texts words.now)) }
-    ensures fit { IfOk result (λ s. IsFit (vec_len seen.now.devices) seen.now.found s) }
+    ensures fit { IfOk result (λ s. IsFit (count_in seen.now) seen.now.found s) }
 {
     if count(words) != 2 {
         return Err(LineFault::Bad(Why::Count));
@@ -56,7 +56,7 @@ pub fn found(seen: &Seen, words: &[&str]) -> Result<Statement, LineFault>
 
 pub fn grant(seen: &Seen, words: &[&str]) -> Result<Statement, LineFault>
     ensures value { GivesLine (λ s. s) result (answer (known seen.now) Verb.Grant (texts words.now)) }
-    ensures fit { IfOk result (λ s. IsFit (vec_len seen.now.devices) seen.now.found s) }
+    ensures fit { IfOk result (λ s. IsFit (count_in seen.now) seen.now.found s) }
 {
     if count(words) != 4 {
         return Err(LineFault::Bad(Why::Count));
@@ -70,7 +70,7 @@ pub fn grant(seen: &Seen, words: &[&str]) -> Result<Statement, LineFault>
 
 pub fn revoke(seen: &Seen, words: &[&str]) -> Result<Statement, LineFault>
     ensures value { GivesLine (λ s. s) result (answer (known seen.now) Verb.Revoke (texts words.now)) }
-    ensures fit { IfOk result (λ s. IsFit (vec_len seen.now.devices) seen.now.found s) }
+    ensures fit { IfOk result (λ s. IsFit (count_in seen.now) seen.now.found s) }
 {
     if count(words) != 3 {
         return Err(LineFault::Bad(Why::Count));
@@ -83,7 +83,7 @@ pub fn revoke(seen: &Seen, words: &[&str]) -> Result<Statement, LineFault>
 
 pub fn at(seen: &Seen, words: &[&str]) -> Result<Statement, LineFault>
     ensures value { GivesLine (λ s. s) result (answer (known seen.now) Verb.At (texts words.now)) }
-    ensures fit { IfOk result (λ s. IsFit (vec_len seen.now.devices) seen.now.found s) }
+    ensures fit { IfOk result (λ s. IsFit (count_in seen.now) seen.now.found s) }
 {
     if count(words) != 2 {
         return Err(LineFault::Bad(Why::Count));
@@ -95,7 +95,7 @@ pub fn at(seen: &Seen, words: &[&str]) -> Result<Statement, LineFault>
 
 pub fn open(seen: &Seen, words: &[&str]) -> Result<Statement, LineFault>
     ensures value { GivesLine (λ s. s) result (answer (known seen.now) Verb.Open (texts words.now)) }
-    ensures fit { IfOk result (λ s. IsFit (vec_len seen.now.devices) seen.now.found s) }
+    ensures fit { IfOk result (λ s. IsFit (count_in seen.now) seen.now.found s) }
 {
     if count(words) != 2 {
         return Err(LineFault::Bad(Why::Count));
@@ -107,7 +107,7 @@ pub fn open(seen: &Seen, words: &[&str]) -> Result<Statement, LineFault>
 
 pub fn pick(seen: &Seen, words: &[&str]) -> Result<Statement, LineFault>
     ensures value { GivesLine (λ s. s) result (answer (known seen.now) Verb.Pick (texts words.now)) }
-    ensures fit { IfOk result (λ s. IsFit (vec_len seen.now.devices) seen.now.found s) }
+    ensures fit { IfOk result (λ s. IsFit (count_in seen.now) seen.now.found s) }
 {
     if count(words) != 2 {
         return Err(LineFault::Bad(Why::Count));
@@ -119,7 +119,7 @@ pub fn pick(seen: &Seen, words: &[&str]) -> Result<Statement, LineFault>
 
 pub fn land(seen: &Seen, words: &[&str]) -> Result<Statement, LineFault>
     ensures value { GivesLine (λ s. s) result (answer (known seen.now) Verb.Land (texts words.now)) }
-    ensures fit { IfOk result (λ s. IsFit (vec_len seen.now.devices) seen.now.found s) }
+    ensures fit { IfOk result (λ s. IsFit (count_in seen.now) seen.now.found s) }
 {
     if count(words) != 2 {
         return Err(LineFault::Bad(Why::Count));
@@ -131,7 +131,7 @@ pub fn land(seen: &Seen, words: &[&str]) -> Result<Statement, LineFault>
 
 pub fn note(seen: &Seen, words: &[&str]) -> Result<Statement, LineFault>
     ensures value { GivesLine (λ s. s) result (answer (known seen.now) Verb.Note (texts words.now)) }
-    ensures fit { IfOk result (λ s. IsFit (vec_len seen.now.devices) seen.now.found s) }
+    ensures fit { IfOk result (λ s. IsFit (count_in seen.now) seen.now.found s) }
 {
     if count(words) != 2 {
         return Err(LineFault::Bad(Why::Count));
@@ -143,7 +143,7 @@ pub fn note(seen: &Seen, words: &[&str]) -> Result<Statement, LineFault>
 
 pub fn flush(seen: &Seen, words: &[&str]) -> Result<Statement, LineFault>
     ensures value { GivesLine (λ s. s) result (answer (known seen.now) Verb.Flush (texts words.now)) }
-    ensures fit { IfOk result (λ s. IsFit (vec_len seen.now.devices) seen.now.found s) }
+    ensures fit { IfOk result (λ s. IsFit (count_in seen.now) seen.now.found s) }
 {
     if count(words) != 2 {
         return Err(LineFault::Bad(Why::Count));
@@ -155,7 +155,7 @@ pub fn flush(seen: &Seen, words: &[&str]) -> Result<Statement, LineFault>
 
 pub fn drain(seen: &Seen, words: &[&str]) -> Result<Statement, LineFault>
     ensures value { GivesLine (λ s. s) result (answer (known seen.now) Verb.Drain (texts words.now)) }
-    ensures fit { IfOk result (λ s. IsFit (vec_len seen.now.devices) seen.now.found s) }
+    ensures fit { IfOk result (λ s. IsFit (count_in seen.now) seen.now.found s) }
 {
     if count(words) != 2 {
         return Err(LineFault::Bad(Why::Count));
@@ -167,7 +167,7 @@ pub fn drain(seen: &Seen, words: &[&str]) -> Result<Statement, LineFault>
 
 pub fn pull(seen: &Seen, words: &[&str]) -> Result<Statement, LineFault>
     ensures value { GivesLine (λ s. s) result (answer (known seen.now) Verb.Pull (texts words.now)) }
-    ensures fit { IfOk result (λ s. IsFit (vec_len seen.now.devices) seen.now.found s) }
+    ensures fit { IfOk result (λ s. IsFit (count_in seen.now) seen.now.found s) }
 {
     if count(words) != 2 {
         return Err(LineFault::Bad(Why::Count));
@@ -179,7 +179,7 @@ pub fn pull(seen: &Seen, words: &[&str]) -> Result<Statement, LineFault>
 
 pub fn fetch(seen: &Seen, words: &[&str]) -> Result<Statement, LineFault>
     ensures value { GivesLine (λ s. s) result (answer (known seen.now) Verb.Fetch (texts words.now)) }
-    ensures fit { IfOk result (λ s. IsFit (vec_len seen.now.devices) seen.now.found s) }
+    ensures fit { IfOk result (λ s. IsFit (count_in seen.now) seen.now.found s) }
 {
     if count(words) != 2 {
         return Err(LineFault::Bad(Why::Count));
@@ -191,7 +191,7 @@ pub fn fetch(seen: &Seen, words: &[&str]) -> Result<Statement, LineFault>
 
 pub fn settle(seen: &Seen, words: &[&str]) -> Result<Statement, LineFault>
     ensures value { GivesLine (λ s. s) result (answer (known seen.now) Verb.Settle (texts words.now)) }
-    ensures fit { IfOk result (λ s. IsFit (vec_len seen.now.devices) seen.now.found s) }
+    ensures fit { IfOk result (λ s. IsFit (count_in seen.now) seen.now.found s) }
 {
     if count(words) != 2 {
         return Err(LineFault::Bad(Why::Count));
@@ -203,7 +203,7 @@ pub fn settle(seen: &Seen, words: &[&str]) -> Result<Statement, LineFault>
 
 pub fn resolve(seen: &Seen, words: &[&str]) -> Result<Statement, LineFault>
     ensures value { GivesLine (λ s. s) result (answer (known seen.now) Verb.Resolve (texts words.now)) }
-    ensures fit { IfOk result (λ s. IsFit (vec_len seen.now.devices) seen.now.found s) }
+    ensures fit { IfOk result (λ s. IsFit (count_in seen.now) seen.now.found s) }
 {
     if count(words) != 2 {
         return Err(LineFault::Bad(Why::Count));
@@ -215,7 +215,7 @@ pub fn resolve(seen: &Seen, words: &[&str]) -> Result<Statement, LineFault>
 
 pub fn status(seen: &Seen, words: &[&str]) -> Result<Statement, LineFault>
     ensures value { GivesLine (λ s. s) result (answer (known seen.now) Verb.Status (texts words.now)) }
-    ensures fit { IfOk result (λ s. IsFit (vec_len seen.now.devices) seen.now.found s) }
+    ensures fit { IfOk result (λ s. IsFit (count_in seen.now) seen.now.found s) }
 {
     if count(words) != 2 {
         return Err(LineFault::Bad(Why::Count));
@@ -227,7 +227,7 @@ pub fn status(seen: &Seen, words: &[&str]) -> Result<Statement, LineFault>
 
 pub fn fuse(seen: &Seen, words: &[&str]) -> Result<Statement, LineFault>
     ensures value { GivesLine (λ s. s) result (answer (known seen.now) Verb.Fuse (texts words.now)) }
-    ensures fit { IfOk result (λ s. IsFit (vec_len seen.now.devices) seen.now.found s) }
+    ensures fit { IfOk result (λ s. IsFit (count_in seen.now) seen.now.found s) }
 {
     if count(words) != 3 {
         return Err(LineFault::Bad(Why::Count));
@@ -240,7 +240,7 @@ pub fn fuse(seen: &Seen, words: &[&str]) -> Result<Statement, LineFault>
 
 pub fn power(seen: &Seen, words: &[&str]) -> Result<Statement, LineFault>
     ensures value { GivesLine (λ s. s) result (answer (known seen.now) Verb.Power (texts words.now)) }
-    ensures fit { IfOk result (λ s. IsFit (vec_len seen.now.devices) seen.now.found s) }
+    ensures fit { IfOk result (λ s. IsFit (count_in seen.now) seen.now.found s) }
 {
     if count(words) != 3 {
         return Err(LineFault::Bad(Why::Count));
@@ -253,7 +253,7 @@ pub fn power(seen: &Seen, words: &[&str]) -> Result<Statement, LineFault>
 
 pub fn folder(seen: &Seen, words: &[&str]) -> Result<Statement, LineFault>
     ensures value { GivesLine (λ s. s) result (answer (known seen.now) Verb.Folder (texts words.now)) }
-    ensures fit { IfOk result (λ s. IsFit (vec_len seen.now.devices) seen.now.found s) }
+    ensures fit { IfOk result (λ s. IsFit (count_in seen.now) seen.now.found s) }
 {
     if count(words) != 1 {
         return Err(LineFault::Bad(Why::Count));
@@ -264,7 +264,7 @@ pub fn folder(seen: &Seen, words: &[&str]) -> Result<Statement, LineFault>
 
 pub fn mkdir(alloc: Global, seen: &Seen, words: &[&str]) -> Result<Statement, LineFault>
     ensures value { GivesLine (λ s. s) result (answer (known seen.now) Verb.Mkdir (texts words.now)) }
-    ensures fit { IfOk result (λ s. IsFit (vec_len seen.now.devices) seen.now.found s) }
+    ensures fit { IfOk result (λ s. IsFit (count_in seen.now) seen.now.found s) }
 {
     if count(words) != 3 {
         return Err(LineFault::Bad(Why::Count));
@@ -278,7 +278,7 @@ pub fn mkdir(alloc: Global, seen: &Seen, words: &[&str]) -> Result<Statement, Li
 
 pub fn mkfile(alloc: Global, seen: &Seen, words: &[&str]) -> Result<Statement, LineFault>
     ensures value { GivesLine (λ s. s) result (answer (known seen.now) Verb.Mkfile (texts words.now)) }
-    ensures fit { IfOk result (λ s. IsFit (vec_len seen.now.devices) seen.now.found s) }
+    ensures fit { IfOk result (λ s. IsFit (count_in seen.now) seen.now.found s) }
 {
     if count(words) != 3 {
         return Err(LineFault::Bad(Why::Count));
@@ -292,7 +292,7 @@ pub fn mkfile(alloc: Global, seen: &Seen, words: &[&str]) -> Result<Statement, L
 
 pub fn link(alloc: Global, seen: &Seen, words: &[&str]) -> Result<Statement, LineFault>
     ensures value { GivesLine (λ s. s) result (answer (known seen.now) Verb.Link (texts words.now)) }
-    ensures fit { IfOk result (λ s. IsFit (vec_len seen.now.devices) seen.now.found s) }
+    ensures fit { IfOk result (λ s. IsFit (count_in seen.now) seen.now.found s) }
 {
     if count(words) != 4 {
         return Err(LineFault::Bad(Why::Count));
@@ -307,7 +307,7 @@ pub fn link(alloc: Global, seen: &Seen, words: &[&str]) -> Result<Statement, Lin
 
 pub fn remove(alloc: Global, seen: &Seen, words: &[&str]) -> Result<Statement, LineFault>
     ensures value { GivesLine (λ s. s) result (answer (known seen.now) Verb.Remove (texts words.now)) }
-    ensures fit { IfOk result (λ s. IsFit (vec_len seen.now.devices) seen.now.found s) }
+    ensures fit { IfOk result (λ s. IsFit (count_in seen.now) seen.now.found s) }
 {
     if count(words) != 3 {
         return Err(LineFault::Bad(Why::Count));
@@ -321,7 +321,7 @@ pub fn remove(alloc: Global, seen: &Seen, words: &[&str]) -> Result<Statement, L
 
 pub fn move_line(alloc: Global, seen: &Seen, words: &[&str]) -> Result<Statement, LineFault>
     ensures value { GivesLine (λ s. s) result (answer (known seen.now) Verb.Move (texts words.now)) }
-    ensures fit { IfOk result (λ s. IsFit (vec_len seen.now.devices) seen.now.found s) }
+    ensures fit { IfOk result (λ s. IsFit (count_in seen.now) seen.now.found s) }
 {
     if count(words) != 4 {
         return Err(LineFault::Bad(Why::Count));
@@ -336,7 +336,7 @@ pub fn move_line(alloc: Global, seen: &Seen, words: &[&str]) -> Result<Statement
 
 pub fn write(alloc: Global, seen: &Seen, words: &[&str]) -> Result<Statement, LineFault>
     ensures value { GivesLine (λ s. s) result (answer (known seen.now) Verb.Write (texts words.now)) }
-    ensures fit { IfOk result (λ s. IsFit (vec_len seen.now.devices) seen.now.found s) }
+    ensures fit { IfOk result (λ s. IsFit (count_in seen.now) seen.now.found s) }
 {
     if count(words) != 5 {
         return Err(LineFault::Bad(Why::Count));
@@ -356,7 +356,7 @@ pub fn write(alloc: Global, seen: &Seen, words: &[&str]) -> Result<Statement, Li
 
 pub fn cut(alloc: Global, seen: &Seen, words: &[&str]) -> Result<Statement, LineFault>
     ensures value { GivesLine (λ s. s) result (answer (known seen.now) Verb.Cut (texts words.now)) }
-    ensures fit { IfOk result (λ s. IsFit (vec_len seen.now.devices) seen.now.found s) }
+    ensures fit { IfOk result (λ s. IsFit (count_in seen.now) seen.now.found s) }
 {
     if count(words) != 4 {
         return Err(LineFault::Bad(Why::Count));
@@ -371,7 +371,7 @@ pub fn cut(alloc: Global, seen: &Seen, words: &[&str]) -> Result<Statement, Line
 
 pub fn chmod(alloc: Global, seen: &Seen, words: &[&str]) -> Result<Statement, LineFault>
     ensures value { GivesLine (λ s. s) result (answer (known seen.now) Verb.Chmod (texts words.now)) }
-    ensures fit { IfOk result (λ s. IsFit (vec_len seen.now.devices) seen.now.found s) }
+    ensures fit { IfOk result (λ s. IsFit (count_in seen.now) seen.now.found s) }
 {
     if count(words) != 4 {
         return Err(LineFault::Bad(Why::Count));
@@ -386,7 +386,7 @@ pub fn chmod(alloc: Global, seen: &Seen, words: &[&str]) -> Result<Statement, Li
 
 pub fn touch(alloc: Global, seen: &Seen, words: &[&str]) -> Result<Statement, LineFault>
     ensures value { GivesLine (λ s. s) result (answer (known seen.now) Verb.Touch (texts words.now)) }
-    ensures fit { IfOk result (λ s. IsFit (vec_len seen.now.devices) seen.now.found s) }
+    ensures fit { IfOk result (λ s. IsFit (count_in seen.now) seen.now.found s) }
 {
     if count(words) != 4 {
         return Err(LineFault::Bad(Why::Count));

@@ -1,9 +1,9 @@
-ghost use Rattle.std.specs.Prelude.{◌≡◌, ◌+◌, ◌<◌, ◌^◌, ◌↔◌, ◌++◌, ◌∷◌, [], true, false, vec_len, length, reverse, MatchOption, IfOk, IfErr, IfSome, OnOk};
+ghost use Rattle.std.specs.Prelude.{◌≡◌, ◌+◌, ◌<◌, ◌^◌, ◌↔◌, ◌++◌, ◌∷◌, [], true, false, length, reverse, MatchOption, IfOk, IfErr, IfSome, OnOk};
 ghost use Rattle.std.specs.Str.{is_utf8};
 ghost use Rattle.std.specs.Str.Lines.{lines_of_parts};
 ghost use Rattle.kb_name.specs.Texts.{texts};
 ghost use Rattle.kb_script.specs.Fit.{IsFit, AllFit};
-ghost use Rattle.kb_script.specs.Seen.{known};
+ghost use Rattle.kb_script.specs.Seen.{known, count_in};
 ghost use Rattle.kb_script.specs.Reasons.{answer};
 ghost use Rattle.kb_script.specs.Gives.{GivesLine};
 ghost use Rattle.kb_script.specs.Earlier.{known_of, AllFitBack};
@@ -23,7 +23,7 @@ use std::alloc::Global;
 /// What a statement's words say.
 fn statement(alloc: Global, seen: &Seen, verb: Verb, words: &[&str]) -> Result<Statement, LineFault>
     ensures value { GivesLine (λ s. s) result (answer (known seen.now) verb (texts words.now)) }
-    ensures fit { IfOk result (λ s. IsFit (vec_len seen.now.devices) seen.now.found s) }
+    ensures fit { IfOk result (λ s. IsFit (count_in seen.now) seen.now.found s) }
 {
     match verb {
         Verb::Seed => reads::seed(seen, words),
@@ -69,7 +69,7 @@ fn worded(
     words: &[&str],
 ) -> Result<Option<Statement>, LineFault>
     ensures value { GivesLine (λ s. s) result (worded_answer live (known seen.now) (texts words.now)) }
-    ensures fit { IfOk result (λ o. IfSome o (λ s. IsFit (vec_len seen.now.devices) seen.now.found s)) }
+    ensures fit { IfOk result (λ o. IfSome o (λ s. IsFit (count_in seen.now) seen.now.found s)) }
 {
     if is_comment(words) {
         return Ok(None);
@@ -103,7 +103,7 @@ fn read_line<'a>(
     line: &'a [u8],
 ) -> Result<Option<Statement>, LineFault>
     ensures value { GivesLine (λ s. s) result (line_answer live (known seen.now) line.now) }
-    ensures fit { IfOk result (λ o. IfSome o (λ s. IsFit (vec_len seen.now.devices) seen.now.found s)) }
+    ensures fit { IfOk result (λ o. IfSome o (λ s. IsFit (count_in seen.now) seen.now.found s)) }
 {
     let Some(text) = text_of(line) else {
         return Err(LineFault::Bad(Why::Text));
@@ -129,7 +129,7 @@ fn step<'a>(
     ensures err { IfErr result (Refuses (line_answer live (known_of (reverse statements.old.items)) line.now)) }
 {
     if let Some(statement) = read_line(alloc, live, seen, words, line)? {
-        note(seen, &statement)?;
+        note(alloc, seen, &statement)?;
         statements.push(statement)?;
     }
     Ok(())

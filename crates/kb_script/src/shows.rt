@@ -1,8 +1,8 @@
 //! What the words of a statement that shows something say.
-ghost use Rattle.std.specs.Prelude.{◌≡◌, vec_len, length, IfOk};
+ghost use Rattle.std.specs.Prelude.{◌≡◌, length, IfOk};
 ghost use Rattle.kb_name.specs.Texts.{texts};
 ghost use Rattle.kb_script.specs.Fit.{IsFit};
-ghost use Rattle.kb_script.specs.Seen.{known};
+ghost use Rattle.kb_script.specs.Seen.{known, count_in};
 ghost use Rattle.kb_script.specs.Reasons.{answer};
 ghost use Rattle.kb_script.specs.Gives.{GivesLine};
 
@@ -18,7 +18,7 @@ use std::alloc::Global;
 
 pub fn cat(alloc: Global, seen: &Seen, words: &[&str]) -> Result<Statement, LineFault>
     ensures value { GivesLine (λ s. s) result (answer (known seen.now) Verb.Cat (texts words.now)) }
-    ensures fit { IfOk result (λ s. IsFit (vec_len seen.now.devices) seen.now.found s) }
+    ensures fit { IfOk result (λ s. IsFit (count_in seen.now) seen.now.found s) }
 {
     match count(words) {
         3 => cat_whole(alloc, seen, words),
@@ -30,7 +30,7 @@ pub fn cat(alloc: Global, seen: &Seen, words: &[&str]) -> Result<Statement, Line
 fn cat_whole(alloc: Global, seen: &Seen, words: &[&str]) -> Result<Statement, LineFault>
     requires { length (texts words.now) ≡ 3 }
     ensures value { GivesLine (λ s. s) result (answer (known seen.now) Verb.Cat (texts words.now)) }
-    ensures fit { IfOk result (λ s. IsFit (vec_len seen.now.devices) seen.now.found s) }
+    ensures fit { IfOk result (λ s. IsFit (count_in seen.now) seen.now.found s) }
 {
     let device = device(seen, word(words, 1))?;
     in_order(seen, Verb::Cat)?;
@@ -42,7 +42,7 @@ fn cat_whole(alloc: Global, seen: &Seen, words: &[&str]) -> Result<Statement, Li
 fn cat_range(alloc: Global, seen: &Seen, words: &[&str]) -> Result<Statement, LineFault>
     requires { length (texts words.now) ≡ 5 }
     ensures value { GivesLine (λ s. s) result (answer (known seen.now) Verb.Cat (texts words.now)) }
-    ensures fit { IfOk result (λ s. IsFit (vec_len seen.now.devices) seen.now.found s) }
+    ensures fit { IfOk result (λ s. IsFit (count_in seen.now) seen.now.found s) }
 {
     let offset = small(word(words, 3))?;
     let length = small(word(words, 4))?;
@@ -56,7 +56,7 @@ fn cat_range(alloc: Global, seen: &Seen, words: &[&str]) -> Result<Statement, Li
 
 pub fn ls(alloc: Global, seen: &Seen, words: &[&str]) -> Result<Statement, LineFault>
     ensures value { GivesLine (λ s. s) result (answer (known seen.now) Verb.Ls (texts words.now)) }
-    ensures fit { IfOk result (λ s. IsFit (vec_len seen.now.devices) seen.now.found s) }
+    ensures fit { IfOk result (λ s. IsFit (count_in seen.now) seen.now.found s) }
 {
     if count(words) != 3 {
         return Err(LineFault::Bad(Why::Count));
@@ -70,7 +70,7 @@ pub fn ls(alloc: Global, seen: &Seen, words: &[&str]) -> Result<Statement, LineF
 
 pub fn tree(seen: &Seen, words: &[&str]) -> Result<Statement, LineFault>
     ensures value { GivesLine (λ s. s) result (answer (known seen.now) Verb.Tree (texts words.now)) }
-    ensures fit { IfOk result (λ s. IsFit (vec_len seen.now.devices) seen.now.found s) }
+    ensures fit { IfOk result (λ s. IsFit (count_in seen.now) seen.now.found s) }
 {
     if count(words) != 2 {
         return Err(LineFault::Bad(Why::Count));
@@ -83,7 +83,7 @@ pub fn tree(seen: &Seen, words: &[&str]) -> Result<Statement, LineFault>
 
 pub fn stat(alloc: Global, seen: &Seen, words: &[&str]) -> Result<Statement, LineFault>
     ensures value { GivesLine (λ s. s) result (answer (known seen.now) Verb.Stat (texts words.now)) }
-    ensures fit { IfOk result (λ s. IsFit (vec_len seen.now.devices) seen.now.found s) }
+    ensures fit { IfOk result (λ s. IsFit (count_in seen.now) seen.now.found s) }
 {
     if count(words) != 3 {
         return Err(LineFault::Bad(Why::Count));

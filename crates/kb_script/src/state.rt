@@ -1,14 +1,15 @@
-ghost use Rattle.std.specs.Prelude.{◌≡◌, ◌≤◌, false, vec_len};
+ghost use Rattle.std.specs.Prelude.{◌≡◌, ◌≤◌, false, length};
 
-use kb_name::DeviceName;
+use indexmap::IndexSet;
 
 /// What the statements so far say to the next.
-#[derive(Debug, Drop)]
+#[derive(Drop)]
 pub struct Seen {
-    pub devices: Vec<DeviceName>,
+    /// The names of the declared devices, in their order.
+    pub devices: IndexSet<Vec<u8>>,
     pub found: bool,
     /// A statement came.
     pub begun: bool,
-    pub ghost none: { begun ≡ false → vec_len devices ≡ 0 },
-    pub ghost few: { vec_len devices ≤ 32 },
+    pub ghost none: { begun ≡ false → length devices.keys ≡ 0 },
+    pub ghost few: { length devices.keys ≤ 32 },
 }

@@ -15,14 +15,14 @@ use Rattle.kb_world.specs.Good.{IsGood}
 use Rattle.kb_world.specs.RunLaws.{ArmsNone}
 use Rattle.kb_world.specs.RunReplies.{Begun}
 use Rattle.kb_world.proofs.Machine.{ends_keep}
-use Rattle.kb_world.proofs.GoodStates.{runs_good, good_owned}
+use Rattle.kb_world.proofs.GoodStates.{runs_good, good_owned, shows_known}
 use Rattle.kb_world.proofs.Unfused.{unfused}
 use Rattle.kb_world.proofs.Determined.{runs_begin}
 use Rattle.kb_world.proofs.Begins.{scripts_answered}
 use Rattle.kb_folder.specs.Chains.{Names}
 use Rattle.kb_world.specs.Spoken.{statement_of}
 use Rattle.kb_world.specs.Doing.{MayDo, Does}
-use Rattle.kb_top.specs.Replies.{names_in, plain, text_of_replies, text_of_each, AllOwned, IsAnswered}
+use Rattle.kb_top.specs.Replies.{names_in, plain, text_of_replies, text_of_each, AllOwned, AllAgree, IsAnswered}
 use Rattle.kb_top.specs.Outcomes.{Ran, Ended, Cut}
 use Rattle.kb_top.proofs.Fits.{declared_after_all, found_after_all, declared_push, found_push, fit_at, names_next, After, after, may_do, may_follow}
 
@@ -87,6 +87,9 @@ text_more names s (first ∷ statements) [] mid statement replies run = absurd r
 owned_by : (s : State) → IsGood s → AllOwned s
 owned_by s good d m is = good_owned s d m good is
 
+agree_by : (s : State) → IsGood s → AllAgree s
+agree_by s good d m j is at empty = shows_known s d m j good is at empty
+
 answers : (statements : List Statement) (each : List (List Reply)) (t : State) → AllFit statements → Begun new_state (plain statements) each t → IsAnswered (plain statements) each
 answers statements each t fit begun = let all = scripts_answered (plain statements) (may_follow 0 false statements fit) in record { all = all.0; are = all.1; first = all.1.begun each t begun }
 
@@ -131,6 +134,7 @@ module _ {W : Type 0} (stands : Names → W → State → Type 0) where
         run = r.run;
         stands_for = r.stands_for;
         owned = owned_by r.state (runs_good (plain statements) r.each r.state r.run);
+        agree = agree_by r.state (runs_good (plain statements) r.each r.state r.run);
         unfused = λ none. unfused (plain statements) r.each r.state none r.run;
         answered = all;
         same = λ plain. (all.are.only r.each (record { state = r.state; run = r.run; plain = plain })).0;
@@ -192,6 +196,7 @@ module _ {W : Type 0} (stands : Names → W → State → Type 0) where
         step = moved.1.steps;
         stands_for = moved.2;
         owned = owned_by moved.0 (runs_good _ _ moved.0 run);
+        agree = agree_by moved.0 (runs_good _ _ moved.0 run);
         unfused = λ none. unfused (plain (take (n + 1) statements)) (running.each ++ moved.1.replies ∷ []) moved.0 (arms_first statements (n + 1) none) run;
         answered = answers statements (running.each ++ moved.1.replies ∷ []) moved.0 fit (part_begun statements n statement running.each running.state moved.1.replies moved.0 next running.run moved.1.steps.0);
         put = put;
@@ -213,6 +218,7 @@ module _ {W : Type 0} (stands : Names → W → State → Type 0) where
           ended = moved.1;
           stands_for = moved.2;
           owned = owned_by moved.0 (ends_keep running.state (statement_of statement) moved.0 moved.1 (runs_good _ _ running.state running.run));
+          agree = agree_by moved.0 (ends_keep running.state (statement_of statement) moved.0 moved.1 (runs_good _ _ running.state running.run));
           unfused = λ none. unfused (plain (take n statements)) running.each running.state (arms_first statements n none) running.run;
           answered = answers statements (running.each ++ moved.1.0 ∷ []) moved.1.1 fit (part_begun statements n statement running.each running.state moved.1.0 moved.1.1 next running.run moved.1.2);
           bytes = running.bytes;

@@ -12,7 +12,7 @@ use Rattle.kb_world.specs.RunLaws.{ArmsNone, TellsNoStop, IsPlain}
 use Rattle.kb_folder.specs.Chains.{Names}
 use Rattle.kb_world.specs.Spoken.{statement_of}
 use Rattle.kb_top.specs.Inputs.{IsInput, HasFault, fault_text, TellsScript, TellsNoScript}
-use Rattle.kb_top.specs.Replies.{names_in, plain, text_of_replies, text_of_each, AllOwned, IsAnswered}
+use Rattle.kb_top.specs.Replies.{names_in, plain, text_of_replies, text_of_each, AllOwned, AllAgree, IsAnswered}
 use Rattle.kb_top.specs.declared.status.Status.{Status}
 use Rattle.kb_top.specs.declared.status.Status.TheVariants.{Done, Usage, Script, ReadFault, WriteFault, Memory}
 
@@ -36,6 +36,7 @@ module _ {W : Type 0} (stands : Names → W → State → Type 0) (world : W) (b
     pub run : Run new_state (plain statements) each state
     pub stands_for : stands (names_in statements) world state
     pub owned : AllOwned state
+    pub agree : AllAgree state
     pub unfused : All ArmsNone (plain statements) → All (All TellsNoStop) each
     pub answered : IsAnswered (plain statements) each
     pub same : All (All IsPlain) each → each ≡ answered.all
@@ -53,6 +54,7 @@ module _ {W : Type 0} (stands : Names → W → State → Type 0) (world : W) (b
     pub ended : Ends middle (statement_of statement) state
     pub stands_for : stands (names_in statements) world state
     pub owned : AllOwned state
+    pub agree : AllAgree state
     pub unfused : All ArmsNone (plain statements) → All (All TellsNoStop) each
     pub answered : IsAnswered (plain statements) (each ++ ended.0 ∷ [])
     pub bytes : Appends before now (text_of_each (names_in statements) (take count statements) each)
@@ -70,6 +72,7 @@ module _ {W : Type 0} (stands : Names → W → State → Type 0) (world : W) (b
     pub step : Steps middle (statement_of statement) replies state
     pub stands_for : stands (names_in statements) world state
     pub owned : AllOwned state
+    pub agree : AllAgree state
     pub unfused : All ArmsNone (plain statements) → All (All TellsNoStop) (each ++ replies ∷ [])
     pub answered : IsAnswered (plain statements) (each ++ replies ∷ [])
     pub put : ℕ

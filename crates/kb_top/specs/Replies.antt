@@ -1,8 +1,11 @@
 -- What the statements of a script reply, and how it is printed.
-use Rattle.std.specs.Prelude.{ℕ, ◌-◌, List, [], ◌∷◌, ◌++◌, map, slice_index_or}
+use Rattle.std.specs.Prelude.{◌≡◌, ℕ, ◌-◌, List, [], ◌∷◌, ◌++◌, map, slice_index_or}
 use Rattle.kb_script.specs.declared.statements.Statement.{Statement}
 use Rattle.kb_script.specs.declared.statements.Statement.TheVariants.{Device}
 use Rattle.kb_lines.specs.LineTexts.{text_of_all}
+use Rattle.kb_snap.specs.Chains.{tree_at}
+use Rattle.kb_device.specs.Journals.{Journal}
+use Rattle.kb_device.specs.Parts.{IsOpenAt, tree_shown}
 use Rattle.kb_device.specs.Owned.{IsOwned}
 use Rattle.kb_world.specs.Statements.{Reply}
 use Rattle.kb_world.specs.Statements as machine
@@ -39,6 +42,10 @@ text_of_each names statements each = []
 -- each device's acknowledged operations stand once and in order in the chain and then in its journal
 abbrev pub AllOwned : State → Type 0
 AllOwned s = (d : ℕ) (m : Member) → IsDevice s d m → IsOwned d s.chain m.part
+
+-- an open device whose queue is empty shows the chain's tree at its known revision, so equal revisions show equal trees
+abbrev pub AllAgree : State → Type 0
+AllAgree s = (d : ℕ) (m : Member) (j : Journal) → IsDevice s d m → IsOpenAt m.part j → j.queue ≡ [] → tree_shown m.part j ≡ tree_at s.chain j.known
 
 -- The statements have their replies, which are theirs whatever run gives them, and these are the first of them, up to one
 -- that tells of a stop or of a collision.

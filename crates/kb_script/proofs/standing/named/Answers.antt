@@ -1,15 +1,16 @@
-use Rattle.std.proofs.Common.{◌∙◌, ap, length, arith}
-use Rattle.kb_script.specs.Seen.{known, place_of}
+use Rattle.std.proofs.Common.{◌≡◌, Some, None, Option, ℕ, position, subst}
+use Rattle.std.specs.Str.{bytes_eq}
 use Rattle.kb_script.proofs.DevicesNamed.{named_yes, named_no}
 use Rattle.kb_script.proofs.standing.named.Goals as goal
 
-pub returns-then-place-len-clause-value : goal.returns-then-place-len-clause-value
-returns-then-place-len-clause-value c =
-    let same = c.deref.ensures.value in
-    let l = c.len.ensures in
-    named_yes (known c.args.seen.now) c.args.word.now c.place_of-place.result (c.place_of-place.ensures ∙ ap (λ d. place_of d c.args.word.now) same) (omega (arith, ap length same))
+pub returns-in-Some-clause-value : goal.returns-in-Some-clause-value
+returns-in-Some-clause-value c =
+    let keys = c.args.seen.now.devices.keys in
+    named_yes (λ name. name.items) c.args.word.now keys c.in-Some.place
+    (subst (λ w. Some c.in-Some.place ≡ position (λ name. bytes_eq w name.items) keys) c.as_bytes.ensures.value c.in-Some.ensures.index)
 
-pub returns-else-place-len-clause-value : goal.returns-else-place-len-clause-value
-returns-else-place-len-clause-value c =
-    let same = c.deref.ensures.value in
-    named_no (known c.args.seen.now) c.args.word.now c.place_of-place.result (c.place_of-place.ensures ∙ ap (λ d. place_of d c.args.word.now) same) (λ h. omega (arith, ap length same))
+pub returns-in-None-clause-value : goal.returns-in-None-clause-value
+returns-in-None-clause-value c =
+    let keys = c.args.seen.now.devices.keys in
+    named_no (λ name. name.items) c.args.word.now keys
+    (subst (λ w. None ≡ position (λ name. bytes_eq w name.items) keys) c.as_bytes.ensures.value c.in-None.ensures.index)
