@@ -7,6 +7,7 @@ use std::alloc::Global;
 use std::test::Fail;
 
 // How a run ended.
+#[derive(Clone, Copy)]
 enum Ended {
     // No disk stopped.
     Whole,
