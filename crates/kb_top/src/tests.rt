@@ -1,7 +1,6 @@
 //! Whole runs over ends in memory.
 mod branches;
 mod scripts;
-mod stops;
 
 use crate::{Status, run_script, run_words};
 use kb_edge::{MemSink, MemSource};
