@@ -1,0 +1,11 @@
+pub mod Fronts
+pub mod Left
+pub mod Numbers
+pub mod OldParts
+pub mod Patched
+pub mod Ranging
+pub mod Refusing
+pub mod Slices
+pub mod Touching
+pub mod Ways
+pub mod Writes

@@ -1,0 +1,5 @@
+pub mod Laws
+pub mod Patches
+pub mod Refusals
+pub mod Tells
+pub mod Ways
