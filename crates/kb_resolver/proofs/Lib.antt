@@ -1,2 +1,4 @@
 mod Split
+mod Rows
+mod Looks
 mod Roots

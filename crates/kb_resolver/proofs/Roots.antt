@@ -1,5 +1,5 @@
 -- Three trees of the root alone can be merged.
-use Rattle.std.proofs.Common.{◌≡◌, ◌≢◌, ℕ, ◌≤◌, List, [], ◌∷◌, length, cond, Some, None, refl, sym, ap, ◌∙◌, arith}
+use Rattle.std.proofs.Common.{◌≡◌, ◌≤◌, [], ◌∷◌, length, cond, Some, None, refl, sym, ap, ◌∙◌, arith}
 use Rattle.kb_name.specs.declared.ids.NodeId.{NodeId}
 use Rattle.kb_name.specs.Nodes.{root}
 use Rattle.kb_ops.specs.Trees.{look, start, root_row}

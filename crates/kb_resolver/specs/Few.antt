@@ -1,5 +1,5 @@
 -- How many files a branch splits.
-use Rattle.std.specs.Prelude.{ℕ, ◌*◌, ◌≤◌, List, length}
+use Rattle.std.specs.Prelude.{◌*◌, ◌≤◌, List, length}
 use Rattle.kb_ops.specs.declared.rows.Op.{Op}
 use Rattle.kb_ops.specs.Trees.{Tree, fold_ops}
 use Rattle.kb_rules.specs.Merge.{splits}

@@ -7,11 +7,11 @@ use Rattle.kb_blocks.specs.declared.hashing.BlockHash.{Ghosts as Hashes}
 use Rattle.kb_name.specs.Names.{is_device_name}
 use Rattle.kb_name.specs.Moments.{last_second}
 use Rattle.kb_ops.specs.Trees.{Tree}
-use Rattle.kb_tree.specs.Held.{Held as Table}
 use Rattle.kb_rules.specs.declared.stamp.Stamp.{Stamp}
 use Rattle.kb_rules.specs.declared.report.Report.{Report}
 use Rattle.kb_rules.specs.Meet.{Meet}
 use Rattle.kb_rules.specs.Merge.{splits, merge, report}
+use Rattle.kb_resolver.specs.Branches.{Lead}
 use Rattle.kb_journal.specs.State.{last_seq}
 use Rattle.kb_chain.specs.declared.states.PutRefusal.{PutRefusal}
 use Rattle.kb_snap.specs.Answers.{PutFault}
@@ -50,6 +50,7 @@ use Rattle.kb_world.specs.Good.{MemberMeets}
 use Rattle.kb_world.specs.Standing.{DeclaredStands, WaitsFor}
 use Rattle.kb_world.specs.Branching.{FetchTurns, MayMerge, stamp_at, IsResolved, Resolved, IsSettling, SettledBy, SettleSteps, SettleTurns, HasFewRows}
 use Rattle.kb_world.specs.declared.declared.Declared.{Declared}
+use Rattle.kb_world.specs.declared.branches.Resolution.{Resolution}
 use Rattle.kb_world.specs.declared.declared.Waiting as waits
 use Rattle.kb_world.specs.declared.declared.Waiting.TheVariants as kept
 use Rattle.kb_world.proofs.Waits.{waiting_open, waits_on}
@@ -251,7 +252,7 @@ module _ {D S H : Type 0} {disks : Ghosts D} {sealers : Seals S} {hashes : Hashe
         let n : Member = record (went m m.part) { link = None } in
         (n, c, (told, settling, record { part = m.part; step = step; member = refl }), has_still, inl folder, here n refl (waiting_open d c m.name m.part m.waiting meets.waiting) refl refl refl)
 
-    pub unresolved : (fault : SettleFault) → (let r : Result (Table × Report) SettleFault = Err fault in Resolved d x.name moment v.inside r) → Goes (Err fault)
+    pub unresolved : (fault : SettleFault) → (let r : Result Resolution SettleFault = Err fault in Resolved d x.name moment v.inside r) → Goes (Err fault)
     unresolved settle.Closed none = refused (Err says.SettleFault.Closed) (refl, refl, closed_at sealers.sealed sealers.signed hashes.hashed seed names d f c v m.part none h.part) (Err settle.Closed) refl
     unresolved settle.NoPlan none =
         let session = inside_at sealers.sealed sealers.signed hashes.hashed seed names d f c v m.part none.0 none.1 h.part in
@@ -320,8 +321,13 @@ resolve_few d inside status b may tells lent =
     let l = lent_at inside status b tells lent in
     subst (λ xs. length xs ≤ 65535) (λ i. splits (sym l.lends.base i) (sym l.lends.merged i) (sym l.lends.ours i)) (may l.s l.x l.at l.lends.planned).few
 
-pub resolves : (d : ℕ) (name own : List ℕ) (moment : ℕ) (inside : Option Inside) (status : Status) (b : Branch) (made : Table × Report) → Tells inside (Ok status) → LendsBranch inside (Some b) → own ≡ name
-    → (let stamp : Stamp = record { device = d; name = own; last = status.last; moment = moment; rule = 1 } in (made.0.tree ≡ merge b.base.now.tree b.merged.now.tree b.ours.now.tree stamp) × (made.1 ≡ report b.base.now.tree b.merged.now.tree b.ours.now.tree stamp))
+pub resolve_ours : (d : ℕ) (inside : Option Inside) (status : Status) (b : Branch) → MayMerge d inside → Tells inside (Ok status) → LendsBranch inside (Some b) → Lead b.our_ops.now b.base.now.tree b.ours.now.tree
+resolve_ours d inside status b may tells lent =
+    let l = lent_at inside status b tells lent in
+    subst (λ ops. Lead ops b.base.now.tree b.ours.now.tree) (sym l.lends.our_ops) (subst (λ t. Lead l.s.journal.queue t b.ours.now.tree) (sym l.lends.base) (subst (λ t. Lead l.s.journal.queue l.x.base t) (sym l.lends.ours) (may l.s l.x l.at l.lends.planned).our_leads))
+
+pub resolves : (d : ℕ) (name own : List ℕ) (moment : ℕ) (inside : Option Inside) (status : Status) (b : Branch) (made : Resolution) → Tells inside (Ok status) → LendsBranch inside (Some b) → own ≡ name
+    → (let stamp : Stamp = record { device = d; name = own; last = status.last; moment = moment; rule = 1 } in (made.table.tree ≡ merge b.base.now.tree b.merged.now.tree b.ours.now.tree stamp) × (made.report ≡ report b.base.now.tree b.merged.now.tree b.ours.now.tree stamp))
     → Resolved d name moment inside (Ok made)
 resolves d name own moment inside status b made tells lent named is =
     let l = lent_at inside status b tells lent in
@@ -337,5 +343,5 @@ resolves d name own moment inside status b made tells lent named is =
     )
 
 -- nothing is lent of a session that has no plan
-pub unplanned : (d : ℕ) (name : List ℕ) (moment : ℕ) (inside : Option Inside) (status : Status) → Tells inside (Ok status) → LendsBranch inside None → (let r : Result (Table × Report) SettleFault = Err settle.NoPlan in Resolved d name moment inside r)
+pub unplanned : (d : ℕ) (name : List ℕ) (moment : ℕ) (inside : Option Inside) (status : Status) → Tells inside (Ok status) → LendsBranch inside None → (let r : Result Resolution SettleFault = Err settle.NoPlan in Resolved d name moment inside r)
 unplanned d name moment inside status tells lent = (tells.0, tells.1, subst (λ o. LendsBranch o None) tells.1 lent)

@@ -6,7 +6,7 @@ use Rattle.sha2.specs.Sha256.{sha256}
 use Rattle.kb_edge.specs.declared.disk.Disk.{Ghosts}
 use Rattle.kb_seal.specs.Sealing.{seal_by_hmac, sign_by_hmac}
 use Rattle.kb_name.specs.Moments.{last_second}
-use Rattle.kb_ops.specs.Trees.{fold_ops}
+use Rattle.kb_ops.specs.Trees.{fold_ops, FitAll}
 use Rattle.kb_rules.specs.declared.report.Report.{Report}
 use Rattle.kb_rules.specs.Meet.{Meet}
 use Rattle.kb_rules.specs.Merge.{splits}
@@ -247,6 +247,7 @@ module _ {M D : Type 0} {disks : Ghosts D} (w : World M D disks) (d : ℕ) (x : 
               let bound : length (splits p.base p.merged t.shown) ≤ 2 * length j.queue = subst (λ u. length (splits p.base p.merged u) ≤ 2 * length j.queue) (ap (fold_ops j.queue) base ∙ sym session.shown) (few j.queue p.base p.merged) in
               let most = journal.few in
               omega (arith, bound, most);
+          our_leads = (subst (FitAll j.queue) (sym goal.base) journal.fit, ap (fold_ops j.queue) base ∙ sym session.shown);
         },
   )
 

@@ -5,11 +5,11 @@ use Rattle.kb_seal.specs.declared.sealer.Sealer.{Ghosts as Seals}
 use Rattle.kb_blocks.specs.declared.hashing.BlockHash.{Ghosts as Hashes}
 use Rattle.kb_name.specs.Moments.{last_second}
 use Rattle.kb_ops.specs.Trees.{Tree}
-use Rattle.kb_tree.specs.Held.{Held as Table}
 use Rattle.kb_rules.specs.declared.stamp.Stamp.{Stamp}
 use Rattle.kb_rules.specs.declared.report.Report.{Report}
 use Rattle.kb_rules.specs.Meet.{Meet}
 use Rattle.kb_rules.specs.Merge.{splits, merge, report}
+use Rattle.kb_resolver.specs.Branches.{Lead}
 use Rattle.kb_journal.specs.State.{last_seq}
 use Rattle.kb_chain.specs.declared.states.PutRefusal.{PutRefusal}
 use Rattle.kb_chain.specs.declared.states.PutRefusal.TheVariants as why
@@ -34,6 +34,7 @@ use Rattle.kb_world.specs.Machine.{Member, Does, went}
 use Rattle.kb_world.specs.Good.{MemberMeets}
 use Rattle.kb_world.specs.Standing.{DeclaredStands}
 use Rattle.kb_world.specs.declared.declared.Declared.{Declared}
+use Rattle.kb_world.specs.declared.branches.Resolution.{Resolution}
 
 -- ---- fetches
 
@@ -65,10 +66,12 @@ FetchTurns answer d c m n = Does (FetchStep d c m.part) ByFetch (ByFetch (told_f
 
 -- ---- merges
 
--- The branch of a session of the device with this number can be merged: the three trees meet, and few files are split.
+-- The branch of a session of the device with this number can be merged: the three trees meet, few files are split, and the queue
+-- leads from the common tree to the device's own.
 pub record IsMergeable (d : ℕ) (s : Inside) (x : Plan) : Type 0 where
   pub meet : (stamp : Stamp) → stamp.device ≡ d → stamp.last ≡ last_seq s.journal → Meet x.base x.merged s.shown stamp
   pub few : length (splits x.base x.merged s.shown) ≤ 65535
+  pub our_leads : Lead s.journal.queue x.base s.shown
 
 -- whatever was fetched
 abbrev pub MayMerge : ℕ → Option Inside → Type 0
@@ -85,8 +88,8 @@ pub record IsResolved (d : ℕ) (name : List ℕ) (moment : ℕ) (s : Inside) (x
   pub did_is : did ≡ report x.base x.merged s.shown (stamp_at d name moment s)
 
 -- the merge of a device's branch, where there is one
-abbrev pub Resolved : ℕ → List ℕ → ℕ → Option Inside → Result (Table × Report) SettleFault → Type 0
-Resolved d name moment inside (Ok made) = (s : Inside) × (x : Plan) × (inside ≡ Some s) × IsResolved d name moment s x made.0.tree made.1
+abbrev pub Resolved : ℕ → List ℕ → ℕ → Option Inside → Result Resolution SettleFault → Type 0
+Resolved d name moment inside (Ok made) = (s : Inside) × (x : Plan) × (inside ≡ Some s) × IsResolved d name moment s x made.table.tree made.report
 Resolved d name moment inside (Err settle.Closed) = inside ≡ None
 Resolved d name moment inside (Err settle.NoPlan) = (s : Inside) × (inside ≡ Some s) × (s.plan ≡ None)
 Resolved d name moment inside (Err settle.Memory) = Unit {0}

@@ -1,10 +1,14 @@
 //! A declared device's branch: what it is to be merged into, and its resolution.
-ghost use Rattle.std.specs.Prelude.{◌≡◌};
+ghost use Rattle.std.specs.Prelude.{◌≡◌, ◌≤◌, length, IfOk};
+ghost use Rattle.kb_rules.specs.Meet.{Meet};
+ghost use Rattle.kb_rules.specs.Merge.{splits, merge, report};
+ghost use Rattle.kb_resolver.specs.Branches.{Lead};
 
 use crate::declared::Declared;
+use kb_actions::{Counted, edit_table};
 use kb_blocks::BlockHash;
-use kb_device::{FetchFault, SettleFault};
-use kb_edge::Disk;
+use kb_device::{Branch, FetchFault, SettleFault};
+use kb_edge::{Disk, Memory};
 use kb_folder::Folder;
 use kb_name::Moment;
 use kb_resolver::resolve;
@@ -12,6 +16,47 @@ use kb_rules::{Report, Stamp};
 use kb_seal::Sealer;
 use kb_tree::Table;
 use std::alloc::Global;
+
+/// The merge of a branch: its table, what it did, and how many rows of the three trees were looked at, at most
+/// 18,446,744,073,709,551,615.
+#[derive(Drop)]
+pub struct Resolution {
+    pub table: Table,
+    pub report: Report,
+    pub looked: u64,
+}
+
+// The merge of a branch, whose trees are seen by counted looks alone.
+fn resolve_branch(alloc: Global, branch: &Branch, stamp: &Stamp) -> Result<Resolution, Memory>
+    requires meet { Meet branch.now.base.now.tree branch.now.merged.now.tree branch.now.ours.now.tree stamp.now }
+    requires our_leads { Lead branch.now.our_ops.now branch.now.base.now.tree branch.now.ours.now.tree }
+    requires rule { stamp.now.rule ≡ 1 }
+    requires few { length (splits branch.now.base.now.tree branch.now.merged.now.tree branch.now.ours.now.tree) ≤ 65535 }
+    ensures merge { IfOk result (λ made. made.table.tree ≡ merge branch.now.base.now.tree branch.now.merged.now.tree branch.now.ours.now.tree stamp.now) }
+    ensures report { IfOk result (λ made. made.report ≡ report branch.now.base.now.tree branch.now.merged.now.tree branch.now.ours.now.tree stamp.now) }
+{
+    let mut base = Counted::new(branch.base);
+    let mut merged = Counted::new(branch.merged);
+    let mut ours = Counted::new(branch.ours);
+    let (edits, report) = resolve(
+        alloc,
+        &mut base,
+        &mut merged,
+        &[],
+        &mut ours,
+        branch.our_ops,
+        false,
+        stamp,
+    )?;
+    let looked = base.count().saturating_add(merged.count());
+    let looked = looked.saturating_add(ours.count());
+    let table = edit_table(branch.merged, &edits)?;
+    Ok(Resolution {
+        table,
+        report,
+        looked,
+    })
+}
 
 impl<D: Disk, S: Sealer, H: BlockHash> Declared<D, S, H> {
     ghost use Rattle.std.specs.Option.{ForSome};
@@ -30,12 +75,7 @@ impl<D: Disk, S: Sealer, H: BlockHash> Declared<D, S, H> {
     }
 
     // The merge of the branch by the device with this number, where something was fetched.
-    fn merged(
-        &self,
-        alloc: Global,
-        number: u16,
-        moment: Moment,
-    ) -> Result<(Table, Report), SettleFault>
+    fn merged(&self, alloc: Global, number: u16, moment: Moment) -> Result<Resolution, SettleFault>
         requires { (v : Member) × IsView self.now.device v × MayMerge number v.inside }
         ensures { (v : Member) → IsView self.now.device v → Resolved number self.now.name moment v.inside result }
     {
@@ -57,38 +97,34 @@ impl<D: Disk, S: Sealer, H: BlockHash> Declared<D, S, H> {
             moment,
             rule: 1,
         };
-        match resolve(
-            alloc,
-            branch.base,
-            branch.merged,
-            &[],
-            branch.ours,
-            branch.our_ops,
-            &stamp,
-        ) {
+        match resolve_branch(alloc, &branch, &stamp) {
             Ok(made) => Ok(made),
             Err(_) => Err(SettleFault::Memory),
         }
     }
 
-    /// Merges the branch into what was fetched, and puts the merge.
+    /// Merges the branch into what was fetched, and puts the merge. How many rows were looked at stands in `looked` once
+    /// there is a merge, whatever becomes of the put.
     pub fn settle(
         &mut self,
         alloc: Global,
         folder: &mut Folder<S, H>,
         number: u16,
         moment: Moment,
+        looked: &mut u64,
     ) -> Result<(u32, Report), SettleFault>
         requires runs { ForSome self.old.device.session (Runs self.old.device.number) }
         requires numbered { self.old.device.number ≡ number }
         requires merges { (v : Member) × IsView self.old.device v × MayMerge number v.inside }
         ensures { SettleTurns moment (held folder.old) (held folder.new) self.old self.new result }
     {
-        let (table, report) = match self.merged(alloc, number, moment) {
+        let made = match self.merged(alloc, number, moment) {
             Ok(made) => made,
             Err(fault) => return Err(fault),
         };
-        match self.device.settle(alloc, folder, table, moment) {
+        *looked = made.looked;
+        let report = made.report;
+        match self.device.settle(alloc, folder, made.table, moment) {
             Ok(number) => Ok((number, report)),
             Err(fault) => Err(fault),
         }

@@ -36,7 +36,8 @@ use std::alloc::Global;
 /// How many revisions the folder takes.
 const MOST_REVISIONS: u32 = 1_000_000;
 
-/// The folder and its devices, in the order in which they are declared.
+/// The folder and its devices, in the order in which they are declared, and how many rows were looked at in the last
+/// resolution that a settle made.
 #[derive(Drop)]
 pub struct World<M: DiskMaker> {
     alloc: Global,
@@ -45,6 +46,7 @@ pub struct World<M: DiskMaker> {
     moment: Moment,
     folder: Folder<HmacSealer, Sha256Hash>,
     devices: Vec<Declared<M::D, HmacSealer, Sha256Hash>>,
+    looked: u64,
 }
 
 // Room for the one line of a reply, taken before anything is done.
@@ -93,7 +95,8 @@ impl<M: DiskMaker> World<M> {
 
     /// A world at moment 0 without devices, whose folder has no revisions, under the seed of zeros.
     pub fn new(alloc: Global, maker: M) -> World<M>
-        ensures { (names : Names) → WorldStands names result new_state }
+        ensures stands { (names : Names) → WorldStands names result new_state }
+        ensures looked { result.looked ≡ 0 }
     {
         beginning_law::<HmacSealer, Sha256Hash>();
         World {
@@ -103,7 +106,16 @@ impl<M: DiskMaker> World<M> {
             moment: Moment::START,
             folder: Folder::new(alloc, MOST_REVISIONS),
             devices: Vec::new(alloc),
+            looked: 0,
         }
+    }
+
+    /// How many rows of the three trees were looked at in the last resolution that a settle made, at most
+    /// 18,446,744,073,709,551,615; 0 before the first.
+    pub fn looked(&self) -> u64
+        ensures { result ≡ self.now.looked }
+    {
+        self.looked
     }
 
     /// Whether nothing has been done yet.
@@ -435,7 +447,13 @@ impl<M: DiskMaker> World<M> {
         longer_law::<HmacSealer, Sha256Hash>();
         landing_law::<HmacSealer, Sha256Hash>();
         few_are_split();
-        let answer = declared.settle(self.alloc, &mut self.folder, number, self.moment);
+        let answer = declared.settle(
+            self.alloc,
+            &mut self.folder,
+            number,
+            self.moment,
+            &mut self.looked,
+        );
         let line = settled_line(name, answer)?;
         Ok(line)
     }
