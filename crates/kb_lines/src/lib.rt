@@ -7,8 +7,6 @@ mod pieces;
 mod reasons;
 mod rendering;
 mod rows;
-#[cfg(test)]
-mod tests;
 
 pub use lines::{Answer, Asked, Did, Line};
 pub use reasons::Reason;

@@ -11,8 +11,6 @@ mod shows;
 mod standing;
 mod state;
 mod statements;
-#[cfg(test)]
-mod tests;
 mod values;
 mod verbs;
 
