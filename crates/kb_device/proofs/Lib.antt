@@ -61,3 +61,5 @@ pub mod Touched
 pub mod ShortParts
 pub mod PartLaws
 pub mod Resolvings
+pub mod PlainOps
+pub mod MergedOps

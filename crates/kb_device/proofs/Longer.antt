@@ -1,8 +1,8 @@
 -- A device stands for its part while the folder goes on.
-use Rattle.std.proofs.Common.{◌≡◌, ℕ, zero, suc, ◌≤◌, ◌<◌, false, List, [], ◌∷◌, ◌++◌, length, map, reverse, Option, None, Some, MatchOption, inl, inr, refl, sym, ap, subst, ◌∙◌, arith}
+use Rattle.std.proofs.Common.{◌≡◌, ℕ, zero, suc, ◌≤◌, ◌<◌, false, List, [], ◌∷◌, ◌++◌, length, map, drop, reverse, Option, None, Some, MatchOption, inl, inr, refl, sym, ap, subst, ◌∙◌, arith}
 use Rattle.std.specs.Prelude.{slice_index_or}
 use Rattle.std.specs.FinMap.{get}
-use Rattle.std.proofs.lemmas.List.{length-map, length-reverse, reverse-append, map-append}
+use Rattle.std.proofs.lemmas.List.{length-map, length-reverse, reverse-append, map-append, take-append-le}
 use Rattle.std.proofs.lemmas.List.Elements.{All-contains}
 use Rattle.sha2.specs.Sha256.{sha256}
 use Rattle.kb_ops.specs.Trees.{look}
@@ -22,6 +22,7 @@ use Rattle.kb_folder.specs.Goes.{HasChain, Grows}
 use Rattle.kb_folder.proofs.Standing.{stands_length}
 use Rattle.kb_device.proofs.Remember.{longer}
 use Rattle.kb_device.specs.Inside.{Inside}
+use Rattle.kb_device.specs.Behind.{all_ops, are_plain}
 use Rattle.kb_device.specs.Stands.{Platter, Member, hashes_of, DiskStands, SessionStands, DeviceStands}
 use Rattle.kb_device.specs.Forms.{StandsLonger}
 
@@ -96,6 +97,8 @@ module _ (sealed signed : List ℕ → List ℕ → List ℕ) (hashed : List ℕ
             remembers = longer sealed signed hashed seed names f new c more x.number x.hash x.generation x.kept has y.remembers grows;
             ring = y.ring;
             base = y.base ∙ sym (tree_longer c more s.journal.known h.remembers.within);
+            ops = y.ops ∙ ap (λ l. all_ops (drop s.journal.known l)) (sym (take-append-le x.number c more y.remembers.within));
+            plain = y.plain ∙ ap (λ l. are_plain (drop s.journal.known l)) (sym (take-append-le x.number c more y.remembers.within));
           };
     }
 

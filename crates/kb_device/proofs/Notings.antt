@@ -217,7 +217,7 @@ module _ (sealed signed : List ℕ → List ℕ → List ℕ) (hashed : List ℕ
                   ring = session.ring;
                   flight = refl;
                   plan = session.plan;
-                  planned = λ x is. (let y = session.planned x is in record { merged = y.merged; remembers = y.remembers; ring = y.ring; base = y.base });
+                  planned = λ x is. (let y = session.planned x is in record { merged = y.merged; remembers = y.remembers; ring = y.ring; base = y.base; ops = y.ops; plain = y.plain });
                 })),
           )
 
@@ -250,7 +250,7 @@ module _ (sealed signed : List ℕ → List ℕ → List ℕ) (hashed : List ℕ
                 ring = session.ring;
                 flight = refl;
                 plan = session.plan;
-                planned = λ x is. (let y = session.planned x is in record { merged = y.merged; remembers = y.remembers; ring = y.ring; base = y.base });
+                planned = λ x is. (let y = session.planned x is in record { merged = y.merged; remembers = y.remembers; ring = y.ring; base = y.base; ops = y.ops; plain = y.plain });
               })),
         )
 

@@ -1,9 +1,10 @@
 -- What a branch is to be merged into.
-use Rattle.std.specs.Prelude.{◌≡◌, ℕ, true, false, List, length, Some, Result, Ok, Err}
+use Rattle.std.specs.Prelude.{◌≡◌, ℕ, Bool, true, false, List, length, Some, Result, Ok, Err}
 use Rattle.kb_snap.specs.Chains.{Chain}
 use Rattle.kb_device.specs.Answers as says
 use Rattle.kb_device.specs.Parts.{Part, FetchStep}
 use Rattle.kb_device.specs.Meets.{PartMeets}
+use Rattle.kb_ops.specs.declared.rows.Op.{Op}
 use Rattle.kb_ops.specs.Trees.{Tree}
 use Rattle.kb_folder.specs.Chains.{Names}
 use Rattle.kb_folder.specs.Puts.{Held}
@@ -16,9 +17,9 @@ use Rattle.kb_device.specs.Heads.{Read}
 use Rattle.kb_device.specs.Pulling.{InChain}
 use Rattle.kb_device.specs.Stands.{PlanStands, Member, DeviceStands}
 
--- the plan of a head that was read, and of the tree of the known revision
-abbrev pub plan_from : Read → Tree → Plan
-plan_from r base = record { number = r.number; hash = r.hash; merged = r.tree; kept = r.kept; ring = r.ring; generation = r.generation; base = base }
+-- the plan of a head that was read, of the tree of the known revision, and of what was done between
+abbrev pub plan_from : Read → Tree → List Op → Bool → Plan
+plan_from r base ops plain = record { number = r.number; hash = r.hash; merged = r.tree; kept = r.kept; ring = r.ring; generation = r.generation; base = base; ops = ops; plain = plain }
 
 -- a session with this plan
 abbrev pub with_plan : Inside → Plan → Inside

@@ -1,5 +1,5 @@
 -- An open device, as plain values.
-use Rattle.std.specs.Prelude.{◌≡◌, ◌⊎◌, ℕ, ◌+◌, ◌≤◌, false, List, length, drop, Option, Some, IsSome}
+use Rattle.std.specs.Prelude.{◌≡◌, ◌⊎◌, ℕ, ◌+◌, ◌≤◌, Bool, false, List, length, drop, Option, Some, IsSome}
 use Rattle.std.specs.List.{AllByRecursion}
 use Rattle.std.specs.FinMap.{get}
 use Rattle.kb_name.specs.declared.ids.NodeId.{NodeId}
@@ -19,7 +19,8 @@ pub record Aloft : Type 0 where
   pub kept : Kept
 
 -- What a branch is to be merged into: the length of the chain, the hash of its last revision, the tree there with pointers of
--- its rows, the folder keys up to its generation; and the tree of the known revision.
+-- its rows, the folder keys up to its generation; the tree of the known revision; and the operations of the revisions between,
+-- with whether none of these is a merge.
 pub record Plan : Type 0 where
   pub number : ℕ
   pub hash : List ℕ
@@ -28,6 +29,8 @@ pub record Plan : Type 0 where
   pub ring : Keys
   pub generation : ℕ
   pub base : Tree
+  pub ops : List Op
+  pub plain : Bool
 
 -- The journal; the base table, which is ahead of the known revision by so many first operations of the queue; the table
 -- that is shown; pointers of rows of the base table; the folder keys; the generation and the device's own role at the

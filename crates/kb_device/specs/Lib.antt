@@ -39,3 +39,4 @@ pub mod Remembering
 pub mod Stepping
 pub mod Resolving
 pub mod Lending
+pub mod Behind

@@ -19,6 +19,7 @@ use Rattle.kb_folder.specs.Stands.{Revisions, keys_to}
 use Rattle.kb_folder.specs.Puts.{Held}
 use Rattle.kb_device.specs.Remembering.{Remembers}
 use Rattle.kb_device.specs.Inside.{Aloft, Plan, Inside, IsRunning}
+use Rattle.kb_device.specs.Behind.{behind, all_ops, are_plain}
 
 -- a disk: its bytes, the places that a power cut may change, and how many steps still succeed for sure, where that is set
 pub record Platter : Type 0 where
@@ -54,6 +55,8 @@ pub record PlanStands (sealed : List ℕ → List ℕ → List ℕ) (hashed : Li
   pub remembers : Remembers sealed hashed seed f c x.number x.hash x.generation x.kept
   pub ring : RingStands seed x.generation x.ring
   pub base : x.base ≡ tree_at c known
+  pub ops : x.ops ≡ all_ops (behind c known x.number)
+  pub plain : x.plain ≡ are_plain (behind c known x.number)
 
 module _ (sealed signed : List ℕ → List ℕ → List ℕ) (hashed : List ℕ → List ℕ) (seed : List ℕ) (names : Names) where
   -- A session: the journal is the part's one; the base table is the tree of the known revision with the operations that

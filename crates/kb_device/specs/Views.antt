@@ -13,7 +13,7 @@ abbrev pub aloft_of : Flight → Aloft
 aloft_of a = record { flight = record { first = a.first; count = a.count; number = a.number }; kept = a.pointers }
 
 abbrev pub plan_of : Goal → Plan
-plan_of g = record { number = g.number; hash = g.hash; merged = g.merged.tree; kept = g.pointers; ring = g.ring; generation = g.generation; base = g.base.tree }
+plan_of g = record { number = g.number; hash = g.hash; merged = g.merged.tree; kept = g.pointers; ring = g.ring; generation = g.generation; base = g.base.tree; ops = g.done.ops.items; plain = g.done.plain }
 
 abbrev pub inside : {D : Type 0} → Session D → Inside
 inside s = record { journal = s.journal.state; base = s.base.tree; ahead = s.ahead; shown = s.shown.tree; kept = s.pointers; ring = s.ring; generation = s.generation; role = s.role; aloft = option_map aloft_of s.aloft; plan = option_map plan_of s.plan }

@@ -12,6 +12,7 @@ ghost use Rattle.kb_device.specs.Inside.{IsRunning};
 ghost use Rattle.kb_device.specs.Stands.{RingStands};
 ghost use Rattle.kb_device.specs.Views.{inside, plan_of, read_of};
 
+use crate::behind::{Done, read_done};
 use crate::fetched::FetchFault;
 use crate::head::{Goal, Head};
 use crate::heading::read_next;
@@ -100,14 +101,19 @@ impl<D: Disk> Session<D> {
             Err(ReadFault::BadFolder) => return Err(FetchFault::BadFolder { number }),
             Err(ReadFault::Memory) => return Err(FetchFault::Memory),
         };
+        let done = match read_done(alloc, folder, &head.ring, lent) {
+            Ok(done) => done,
+            Err(ReadFault::BadFolder) => return Err(FetchFault::BadFolder { number }),
+            Err(ReadFault::Memory) => return Err(FetchFault::Memory),
+        };
         let number = head.number;
-        self.plan = Some(goal_of(head, base));
+        self.plan = Some(goal_of(head, base, done));
         Ok(number)
     }
 }
 
-fn goal_of(head: Head, base: Table) -> Goal
-    ensures { plan_of result ≡ plan_from (read_of head) base.tree }
+fn goal_of(head: Head, base: Table, done: Done) -> Goal
+    ensures { plan_of result ≡ plan_from (read_of head) base.tree done.ops.items done.plain }
 {
     let hash = head.hash;
     Goal {
@@ -118,5 +124,6 @@ fn goal_of(head: Head, base: Table) -> Goal
         ring: head.ring,
         generation: head.generation,
         base,
+        done,
     }
 }

@@ -1,5 +1,6 @@
 //! A revision as it was read.
 
+use crate::behind::Done;
 use kb_blocks::Hash;
 use kb_keys::{KeyRing, Role};
 use kb_snap::Pointers;
@@ -21,7 +22,7 @@ pub struct Head {
 }
 
 /// What a branch is to be merged into: the number and the hash of a revision, its tree, the pointers of its rows, and the
-/// folder keys up to its generation; and the tree of the revision that the branch began at.
+/// folder keys up to its generation; the tree of the revision that the branch began at, and what the revisions behind it did.
 #[derive(Drop)]
 pub struct Goal {
     pub number: u32,
@@ -31,4 +32,5 @@ pub struct Goal {
     pub ring: KeyRing,
     pub generation: u32,
     pub base: Table,
+    pub done: Done,
 }

@@ -8,13 +8,17 @@ use kb_ops::Op;
 use kb_tree::Table;
 
 /// A branch, and what it is to be merged into: the tree of the revision that it began at, the tree of the revision that was
-/// fetched, and the branch's own tree, with the operations that wait.
+/// fetched with the operations of the revisions up to it, those of merges included, and the branch's own tree with the
+/// operations that wait. It is plain where none of these revisions is a merge, so that their operations lead from the one
+/// tree to the other.
 #[derive(Clone, Copy)]
 pub struct Branch<'a> {
     pub base: &'a Table,
     pub merged: &'a Table,
+    pub merged_ops: &'a [Op],
     pub ours: &'a Table,
     pub our_ops: &'a [Op],
+    pub plain: bool,
 }
 
 impl<D: Disk> Session<D> {
@@ -28,8 +32,10 @@ impl<D: Disk> Session<D> {
         Some(Branch {
             base: &goal.base,
             merged: &goal.merged,
+            merged_ops: goal.done.ops.as_slice(),
             ours: &self.shown,
             our_ops: self.journal.queue(),
+            plain: goal.done.plain,
         })
     }
 }

@@ -3,6 +3,7 @@
 #![tactic(auto)]
 
 mod answers;
+mod behind;
 mod called;
 mod calling;
 mod device;
@@ -31,7 +32,7 @@ pub use answers::{NoteFault, Noted, OpenFault, PickFault, Picked, PullFault, Put
 pub use called::{CallFault, Called, Closed, LookFault, Status};
 pub use device::Device;
 pub use fetched::FetchFault;
-pub use laws::{landing_law, longer_law};
+pub use laws::{landing_law, longer_law, plain_ops_law};
 pub use left_pointers::{forget_touched, left_law};
 pub use lent::Branch;
 pub use merge_requests::merge_law;

@@ -213,7 +213,8 @@ pub fn fill<S: Sealer, H: BlockHash>(
     Ok(())
 }
 
-fn open<S: Sealer>(alloc: Global, revision: &Revision, key: &Key) -> Result<Private, ReadFault>
+/// The private part of a revision, under the folder key of its generation.
+pub fn open<S: Sealer>(alloc: Global, revision: &Revision, key: &Key) -> Result<Private, ReadFault>
     ensures { (p : PrivateRecord) → IsPrivate revision.now.kind p → revision.now.private ≡ S.sealed key.now (private_text revision.now.kind p) → IfRead result (λ read. read ≡ p) }
 {
     match open_private::<S>(alloc, revision, key) {

@@ -326,6 +326,11 @@ resolve_ours d inside status b may tells lent =
     let l = lent_at inside status b tells lent in
     subst (λ ops. Lead ops b.base.now.tree b.ours.now.tree) (sym l.lends.our_ops) (subst (λ t. Lead l.s.journal.queue t b.ours.now.tree) (sym l.lends.base) (subst (λ t. Lead l.s.journal.queue l.x.base t) (sym l.lends.ours) (may l.s l.x l.at l.lends.planned).our_leads))
 
+pub resolve_merged : (d : ℕ) (inside : Option Inside) (status : Status) (b : Branch) → MayMerge d inside → Tells inside (Ok status) → LendsBranch inside (Some b) → b.plain ≡ true → Lead b.merged_ops.now b.base.now.tree b.merged.now.tree
+resolve_merged d inside status b may tells lent plain =
+    let l = lent_at inside status b tells lent in
+    subst (λ ops. Lead ops b.base.now.tree b.merged.now.tree) (sym l.lends.merged_ops) (subst (λ t. Lead l.x.ops t b.merged.now.tree) (sym l.lends.base) (subst (λ t. Lead l.x.ops l.x.base t) (sym l.lends.merged) ((may l.s l.x l.at l.lends.planned).merged_leads (sym l.lends.plain ∙ plain))))
+
 pub resolves : (d : ℕ) (name own : List ℕ) (moment : ℕ) (inside : Option Inside) (status : Status) (b : Branch) (made : Resolution) → Tells inside (Ok status) → LendsBranch inside (Some b) → own ≡ name
     → (let stamp : Stamp = record { device = d; name = own; last = status.last; moment = moment; rule = 1 } in (made.table.tree ≡ merge b.base.now.tree b.merged.now.tree b.ours.now.tree stamp) × (made.report ≡ report b.base.now.tree b.merged.now.tree b.ours.now.tree stamp))
     → Resolved d name moment inside (Ok made)

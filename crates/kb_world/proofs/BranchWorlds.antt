@@ -17,6 +17,7 @@ use Rattle.kb_script.specs.declared.statements.Statement.TheVariants as said
 use Rattle.kb_device.specs.Answers as says
 use Rattle.kb_device.specs.Devices.{IsView}
 use Rattle.kb_device.specs.Inside.{Plan}
+use Rattle.kb_device.specs.Behind.{PlainOpsLead}
 use Rattle.kb_device.specs.Journals.{Journal, plain}
 use Rattle.kb_device.specs.Stands as inner
 use Rattle.kb_device.proofs.Parts.{at_session, at_journal}
@@ -226,8 +227,8 @@ module _ {M D : Type 0} {disks : Ghosts D} (w : World M D disks) (d : ℕ) (x : 
   number_at = sym at.here.is.number ∙ at.here.part.number
 
   -- the branch of the device can be merged
-  pub merges_at : FewAreSplit → (v : inner.Member) × IsView x.device v × MayMerge d v.inside
-  merges_at few = (
+  pub merges_at : FewAreSplit → PlainOpsLead → (v : inner.Member) × IsView x.device v × MayMerge d v.inside
+  merges_at few plain_leads = (
     at.here.view,
     at.here.is,
     λ t p inside planned.
@@ -248,6 +249,11 @@ module _ {M D : Type 0} {disks : Ghosts D} (w : World M D disks) (d : ℕ) (x : 
               let most = journal.few in
               omega (arith, bound, most);
           our_leads = (subst (FitAll j.queue) (sym goal.base) journal.fit, ap (fold_ops j.queue) base ∙ sym session.shown);
+          merged_leads = λ is.
+              let led = plain_leads s.chain j.known p.number stands.2.good.chain plan.1 plan.2 (sym goal.plain ∙ is) in (
+                subst (FitAll p.ops) (sym goal.base) (subst (λ ops. FitAll ops (tree_at s.chain j.known)) (sym goal.ops) led.0),
+                (λ i. fold_ops (goal.ops i) (goal.base i)) ∙ led.1 ∙ sym goal.merged,
+              );
         },
   )
 

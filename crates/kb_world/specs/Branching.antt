@@ -66,12 +66,13 @@ FetchTurns answer d c m n = Does (FetchStep d c m.part) ByFetch (ByFetch (told_f
 
 -- ---- merges
 
--- The branch of a session of the device with this number can be merged: the three trees meet, few files are split, and the queue
--- leads from the common tree to the device's own.
+-- The branch of a session of the device with this number can be merged: the three trees meet, few files are split, and the operations of
+-- each side lead from the common tree to its own, those of the merged side where they are plain.
 pub record IsMergeable (d : ℕ) (s : Inside) (x : Plan) : Type 0 where
   pub meet : (stamp : Stamp) → stamp.device ≡ d → stamp.last ≡ last_seq s.journal → Meet x.base x.merged s.shown stamp
   pub few : length (splits x.base x.merged s.shown) ≤ 65535
   pub our_leads : Lead s.journal.queue x.base s.shown
+  pub merged_leads : x.plain ≡ true → Lead x.ops x.base x.merged
 
 -- whatever was fetched
 abbrev pub MayMerge : ℕ → Option Inside → Type 0

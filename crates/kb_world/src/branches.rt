@@ -1,8 +1,8 @@
 //! A declared device's branch: what it is to be merged into, and its resolution.
-ghost use Rattle.std.specs.Prelude.{◌≡◌, ◌≤◌, length, IfOk};
+ghost use Rattle.std.specs.Prelude.{◌≡◌, ◌≤◌, ◌+◌, true, length, IfOk};
 ghost use Rattle.kb_rules.specs.Meet.{Meet};
 ghost use Rattle.kb_rules.specs.Merge.{splits, merge, report};
-ghost use Rattle.kb_resolver.specs.Branches.{Lead};
+ghost use Rattle.kb_resolver.specs.Branches.{Lead, LooksFew};
 
 use crate::declared::Declared;
 use kb_actions::{Counted, edit_table};
@@ -29,11 +29,13 @@ pub struct Resolution {
 // The merge of a branch, whose trees are seen by counted looks alone.
 fn resolve_branch(alloc: Global, branch: &Branch, stamp: &Stamp) -> Result<Resolution, Memory>
     requires meet { Meet branch.now.base.now.tree branch.now.merged.now.tree branch.now.ours.now.tree stamp.now }
+    requires merged_leads { branch.now.plain ≡ true → Lead branch.now.merged_ops.now branch.now.base.now.tree branch.now.merged.now.tree }
     requires our_leads { Lead branch.now.our_ops.now branch.now.base.now.tree branch.now.ours.now.tree }
     requires rule { stamp.now.rule ≡ 1 }
     requires few { length (splits branch.now.base.now.tree branch.now.merged.now.tree branch.now.ours.now.tree) ≤ 65535 }
     ensures merge { IfOk result (λ made. made.table.tree ≡ merge branch.now.base.now.tree branch.now.merged.now.tree branch.now.ours.now.tree stamp.now) }
     ensures report { IfOk result (λ made. made.report ≡ report branch.now.base.now.tree branch.now.merged.now.tree branch.now.ours.now.tree stamp.now) }
+    ensures looks { IfOk result (λ made. branch.now.plain ≡ true → LooksFew (length branch.now.merged_ops.now + length branch.now.our_ops.now) branch.now.base.now.tree branch.now.merged.now.tree branch.now.ours.now.tree stamp.now 0 made.looked) }
 {
     let mut base = Counted::new(branch.base);
     let mut merged = Counted::new(branch.merged);
@@ -42,10 +44,10 @@ fn resolve_branch(alloc: Global, branch: &Branch, stamp: &Stamp) -> Result<Resol
         alloc,
         &mut base,
         &mut merged,
-        &[],
+        branch.merged_ops,
         &mut ours,
         branch.our_ops,
-        false,
+        branch.plain,
         stamp,
     )?;
     let looked = base.count().saturating_add(merged.count());

@@ -20,7 +20,7 @@ use crate::replies::{
     rekeyed_line, settled_line, shown_line, told_line,
 };
 use kb_blocks::Sha256Hash;
-use kb_device::{Device, landing_law, longer_law};
+use kb_device::{Device, landing_law, longer_law, plain_ops_law};
 use kb_edge::{DiskMaker, Memory, Pick};
 use kb_folder::{Folder, beginning_law, machine_law, once_law};
 use kb_keys::{Role, Secrets};
@@ -447,6 +447,7 @@ impl<M: DiskMaker> World<M> {
         longer_law::<HmacSealer, Sha256Hash>();
         landing_law::<HmacSealer, Sha256Hash>();
         few_are_split();
+        plain_ops_law();
         let answer = declared.settle(
             self.alloc,
             &mut self.folder,

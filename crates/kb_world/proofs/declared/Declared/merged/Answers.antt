@@ -1,7 +1,7 @@
 use Rattle.std.proofs.Common.{◌≡◌, None, Some, Ok, Err, refl, sym, ap, subst, ◌∙◌}
 use Rattle.kb_device.specs.Lending.{LendsBranch}
 use Rattle.kb_device.proofs.Options.{none_by}
-use Rattle.kb_world.proofs.BranchTurns.{resolve_meets, resolve_few, resolve_ours, resolves, unplanned}
+use Rattle.kb_world.proofs.BranchTurns.{resolve_meets, resolve_few, resolve_ours, resolve_merged, resolves, unplanned}
 use Rattle.kb_world.proofs.declared.Declared.merged.Goals as goal
 
 pub returns-in-Err : goal.returns-in-Err
@@ -32,3 +32,9 @@ resolve_branch-requires-clause-our_leads g c =
     let v = c.requires.0 in
     let view = c.requires.1 in
     resolve_ours c.args.number v.inside c.in-Ok.status c.in_Some-branch.branch c.requires.2 (c.in-Ok.ensures.tells v view) (c.in_Some-branch.ensures v view)
+
+pub resolve_branch-requires-clause-merged_leads : goal.resolve_branch-requires-clause-merged_leads
+resolve_branch-requires-clause-merged_leads g c =
+    let v = c.requires.0 in
+    let view = c.requires.1 in
+    resolve_merged c.args.number v.inside c.in-Ok.status c.in_Some-branch.branch c.requires.2 (c.in-Ok.ensures.tells v view) (c.in_Some-branch.ensures v view)

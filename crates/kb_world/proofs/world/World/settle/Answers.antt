@@ -28,7 +28,7 @@ settle-answer-requires-clause-merges g c =
     let x = c.index_mut-declared.result.now in
     let within : c.args.number - 1 < length w.devices.items = (let low = c.requires.declared.0 in let high = c.requires.declared.1 in omega (arith, low, high)) in
     let found : slice_get w.devices.items (c.args.number - 1) ≡ Some x = slice_get_read w.devices.items (length w.devices.items) (c.args.number - 1) x refl within c.index_mut-declared.ensures.value in
-    merges_at w c.args.number x c.requires.declared.0 found c.requires.stands c.few_are_split.ensures
+    merges_at w c.args.number x c.requires.declared.0 found c.requires.stands c.few_are_split.ensures c.plain_ops_law.ensures
 
 pub returns-in_err-name-clause-memory : goal.returns-in_err-name-clause-memory
 returns-in_err-name-clause-memory g c = on_err c.from_residual.result (stays_so c.args.self.now)
