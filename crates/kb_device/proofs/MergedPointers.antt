@@ -1,5 +1,5 @@
 -- The pointers that a merge leaves hold their rows of the merged tree.
-use Rattle.std.proofs.Common.{◌≡◌, ◌⊎◌, ◌≢◌, ℕ, ◌+◌, ◌<◌, Bool, true, false, ◌&&◌, cond, List, [], ◌∷◌, ◌++◌, length, take, Option, Some, None, IsSome, is_some, inl, inr, refl, sym, ap, subst, ◌∙◌}
+use Rattle.std.proofs.Common.{◌≡◌, ◌⊎◌, ℕ, ◌+◌, ◌<◌, Bool, true, false, cond, List, [], ◌∷◌, ◌++◌, length, take, Some, None, IsSome, is_some, Result, Ok, Err, OnOk, inl, inr, refl, sym, ap, subst, ◌∙◌}
 use mathlib.Core.Bool.{beq}
 use borrow.Author.Tests.{eqb-true}
 use Rattle.std.specs.Str.{bytes_eq}
@@ -14,7 +14,6 @@ use Rattle.kb_ops.specs.declared.rows.Row.{Row}
 use Rattle.kb_ops.specs.Codes.{kind_number, kind_numbered, kind_again}
 use Rattle.kb_ops.specs.Lists.{tree_of, rises}
 use Rattle.kb_ops.specs.Plan.{is_below}
-use Rattle.kb_ops.specs.Rows.{meets}
 use Rattle.kb_ops.specs.Trees.{Tree, look}
 use Rattle.kb_ops.proofs.Lists.{row_of, look_of}
 use Rattle.kb_ops.proofs.Looks.{nodes_total, tested, map_most}
@@ -24,7 +23,6 @@ use Rattle.kb_rules.specs.Three.{same_kind, same_place, same_row}
 use Rattle.kb_rules.proofs.Basics.{bytes_same, first_of_both, second_of_both}
 use Rattle.kb_blocks.specs.declared.pointer.Ptr.{Ptr}
 use Rattle.kb_files.specs.Files.{Vault}
-use Rattle.kb_snap.specs.Holds.{Holds}
 use Rattle.kb_snap.specs.Laws.{IsUnder, IsClear, StaysUnder}
 use Rattle.kb_snap.specs.Pointers.{Kept, AllHold}
 use Rattle.kb_snap.proofs.Found.{stay_held}
@@ -131,3 +129,7 @@ set_kept left kept id ptr all at q p is = elim (node_cases q id) [
       ap (get kept) e ∙ at ∙ sym here ∙ is)
   | inr other ↦ all q p (sym (get-insert nodes_total left id ptr q ∙ ap (λ b. cond b (Some ptr) (get left q)) (tested q id ∙ node_other q id other)) ∙ is)
 ]
+
+pub set_done : {A E : Type 0} (r : Result A E) (left new kept : Kept) (id : NodeId) (ptr : Ptr) → get kept id ≡ Some ptr → OnOk r (new ≡ insert left id ptr) → OnOk r (AreOf left kept → AreOf new kept)
+set_done (Ok a) left new kept id ptr at is = λ all. subst (λ m. AreOf m kept) (sym is) (set_kept left kept id ptr all at)
+set_done (Err e) left new kept id ptr at is = tt

@@ -97,7 +97,7 @@ fn pointers_of(alloc: Global, kept: &Pointers, rows: &[Row]) -> Result<Pointers,
 
 /// The pointers of an old tree's rows that hold the same rows of a new one: those of the rows that changed are dropped, with
 /// those of the rows above them.
-pub fn merged_pointers(
+pub fn left_by_merge(
     alloc: Global,
     kept: &Pointers,
     old: &Table,

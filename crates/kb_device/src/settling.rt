@@ -16,7 +16,7 @@ ghost use Rattle.kb_device.specs.declared.settled.SettleFault.TheVariants as sto
 
 use crate::head::Goal;
 use crate::merge_requests::merge_request;
-use crate::merged_pointers::merged_pointers;
+use crate::merged_pointers::left_by_merge;
 use crate::session::Session;
 use crate::settled::SettleFault;
 use crate::step_requests::StepMade;
@@ -91,7 +91,7 @@ impl<D: Disk> Session<D> {
             unreachable!()
         };
         let ops = copies(alloc, queue)?;
-        let left = merged_pointers(alloc, &goal.pointers, &goal.merged, table)?;
+        let left = left_by_merge(alloc, &goal.pointers, &goal.merged, table)?;
         merge_request::<S, H>(
             alloc,
             table,
