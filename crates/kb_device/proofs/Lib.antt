@@ -58,6 +58,7 @@ pub mod Merge
 pub mod Remember
 pub mod Step
 pub mod Touched
+pub mod MergedPointers
 pub mod ShortParts
 pub mod PartLaws
 pub mod Resolvings

@@ -2,13 +2,12 @@
 use Rattle.std.proofs.Common.{◌≡◌, ◌≢◌, ℕ, suc, ◌+◌, ◌<◌, ◌≤◌, true, false, List, [], ◌∷◌, ◌++◌, length, drop, take, Option, None, Some, Result, Ok, Err, inl, inr, refl, sym, ap, subst, ◌∙◌, arith, length-append}
 use Rattle.std.specs.Prelude.{IsSomeAnd, Contains}
 use Rattle.std.specs.Option.{option_map}
-use Rattle.std.specs.FinMap.{get, empty, get-empty}
+use Rattle.std.specs.FinMap.{get}
 use Rattle.std.proofs.lemmas.List.{take_all}
 use Rattle.sha2.specs.Sha256.{sha256}
 use Rattle.kb_edge.specs.Disk.{FallsBy}
 use Rattle.kb_log.specs.LogList.{area_size}
 use Rattle.kb_name.specs.Names.{is_device_name}
-use Rattle.kb_name.specs.Nodes.{node_cmp}
 use Rattle.kb_ops.specs.Trees.{Tree, look, fold_ops}
 use Rattle.kb_rules.specs.declared.stamp.Stamp.{Stamp}
 use Rattle.kb_rules.specs.declared.report.Report.{Report}
@@ -55,6 +54,7 @@ use Rattle.kb_device.specs.declared.settled.SettleFault.TheVariants as fault
 use Rattle.kb_device.proofs.Hashes.{same_hash, last_hash}
 use Rattle.kb_device.proofs.Ids.{chain_ids, ids_more}
 use Rattle.kb_device.proofs.Longer.{chain_length, hash_longer}
+use Rattle.kb_device.proofs.MergedPointers.{left_hold}
 use Rattle.kb_device.proofs.Notings.{stands_with, stands_closed}
 use Rattle.kb_device.proofs.Owned.{landed_length}
 use Rattle.kb_device.proofs.Parts.{at_session, at_journal}
@@ -151,9 +151,9 @@ module _ (sealed signed : List ℕ → List ℕ → List ℕ) (hashed : List ℕ
       key_is : a.asked.key ≡ folder_key seed x.generation
       key_is = ring_key seed x.generation x.ring stands.ring low a.asked.key a.asked.keyed
 
-      made : IsMergeRequest sealed signed hashed (device_secret seed d) (folder_key seed x.generation) x.generation (x.number + 1) x.hash (branch_at d moment j) tree empty a.request
-      made = subst (λ k. IsMergeRequest sealed signed hashed (device_secret seed d) k x.generation (x.number + 1) x.hash (branch_at d moment j) tree empty a.request) key_is
-          (subst (λ k. IsMergeRequest sealed signed hashed k a.asked.key x.generation (x.number + 1) x.hash (branch_at d moment j) tree empty a.request) may.stands.secret a.asked.made)
+      made : IsMergeRequest sealed signed hashed (device_secret seed d) (folder_key seed x.generation) x.generation (x.number + 1) x.hash (branch_at d moment j) tree a.asked.left a.request
+      made = subst (λ k. IsMergeRequest sealed signed hashed (device_secret seed d) k x.generation (x.number + 1) x.hash (branch_at d moment j) tree a.asked.left a.request) key_is
+          (subst (λ k. IsMergeRequest sealed signed hashed k a.asked.key x.generation (x.number + 1) x.hash (branch_at d moment j) tree a.asked.left a.request) may.stands.secret a.asked.made)
 
       abbrev stamp_with : List ℕ → Stamp
       stamp_with name = stamp_of (merge_plain name (branch_at d moment j)) 1 j.queue
@@ -164,14 +164,16 @@ module _ (sealed signed : List ℕ → List ℕ → List ℕ) (hashed : List ℕ
       did_is : report_of d old.name moment s x ≡ report_at d by p c j x.number
       did_is = λ i. report ((stands.base ∙ sym ss.base) i) (stands.merged i) (session.shown i) (stamp_with old.name)
 
-      none_held : (vault : _) → AllHold vault (look tree) empty
-      none_held vault q y at = (let no : None ≡ Some y = sym (get-empty node_cmp q) ∙ at in cc)
+      -- the pointers that the merge leaves hold their rows in the folder
+      left_held : AllHold (Opens sealed hashed (get f.blocks) (keys_to seed x.generation)) (look tree) a.asked.left
+      left_held = left_hold (Opens sealed hashed (get f.blocks) (keys_to seed x.generation)) x.merged tree x.kept a.asked.left a.asked.leaves
+          (subst (λ u. AllHold (Opens sealed hashed (get f.blocks) (keys_to seed x.generation)) (look u) x.kept) (sym stands.merged) stands.remembers.held)
 
-      knows : x.number ≡ length c → KnowsFolder sealed hashed seed f c x.generation x.hash tree empty
+      knows : x.number ≡ length c → KnowsFolder sealed hashed seed f c x.generation x.hash tree a.asked.left
       knows end = record {
         head_is = stands.remembers.hash_is ∙ head_known f.revisions x.number (end ∙ chain_length sealed signed hashed seed names f c may.has);
         generation_is = stands.remembers.generation_is ∙ ap (generation_from 0) (take_all x.number c (omega (arith, end)));
-        held = none_held (Opens sealed hashed (get f.blocks) (keys_to seed x.generation));
+        held = left_held;
       }
 
       abbrev ask : Ask
@@ -179,7 +181,7 @@ module _ (sealed signed : List ℕ → List ℕ → List ℕ) (hashed : List ℕ
 
       is_for : IsFor sealed signed hashed seed names f a.request ask
       is_for = subst (λ n. IsFor sealed signed hashed seed names f a.request (merge_ask d (record { name = n; moment = moment; rule = 1 }) j x.number)) (sym may.stands.name)
-          (law f c d moment x.number p j x.generation x.hash tree empty a.request may.has may.part has_plan (subst (λ n. is_device_name n ≡ true) may.stands.name may.merger.name) may.merger.moment may.stands.registered few
+          (law f c d moment x.number p j x.generation x.hash tree a.asked.left a.request may.has may.part has_plan (subst (λ n. is_device_name n ≡ true) may.stands.name may.merger.name) may.merger.moment may.stands.registered few
           (subst (λ n. tree ≡ merged_tree p.base (tree_at c x.number) (tree_shown p j) (stamp_with n)) may.stands.name tree_is) knows made)
 
       extends : Extends c ask
@@ -238,9 +240,9 @@ module _ (sealed signed : List ℕ → List ℕ → List ℕ) (hashed : List ℕ
 
       remembers : Remembers sealed hashed seed g longer n hash a.plan.generation a.pointers
       remembers = subst (λ k. Remembers sealed hashed seed g longer k hash a.plan.generation a.pointers) (sym end)
-          (remembers_taken sealed signed hashed seed names f g c y a.request number a.plan.generation tree empty a.pointers may.has a.put (tree_now ∙ ap (tree_at longer) end) generation_now (low t now (Ok number) a)
-          (none_held t now (Ok number) a (Opens sealed hashed (get f.blocks) (keys_to seed a.plan.generation)))
-          (subst (λ k. OnceAllStored hashed sealed a.plan.generation k a.request.blocks (λ vault. AllHold vault (look tree) empty → AllHold vault (look tree) a.pointers)) (key_is t now (Ok number) a) a.asked.holds))
+          (remembers_taken sealed signed hashed seed names f g c y a.request number a.plan.generation tree a.asked.left a.pointers may.has a.put (tree_now ∙ ap (tree_at longer) end) generation_now (low t now (Ok number) a)
+          (left_held t now (Ok number) a)
+          (subst (λ k. OnceAllStored hashed sealed a.plan.generation k a.request.blocks (λ vault. AllHold vault (look tree) a.asked.left → AllHold vault (look tree) a.pointers)) (key_is t now (Ok number) a) a.asked.holds))
 
       bytes_is : g.revisions ≡ a.request.revision ∷ f.revisions
       bytes_is = a.put.revisions

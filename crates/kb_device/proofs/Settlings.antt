@@ -9,7 +9,7 @@ use Rattle.kb_ops.specs.Grammar.{IsProper}
 use Rattle.kb_ops.specs.Trees.{Tree, look, fold_ops, FitAll}
 use Rattle.kb_snap.specs.Pointers.{Kept, AllHold}
 use Rattle.kb_device.specs.Inside.{Plan, Inside, IsRunning}
-use Rattle.std.specs.FinMap.{empty}
+use Rattle.kb_device.specs.Left.{LeavesSame}
 use Rattle.sha2.specs.Sha256.{sha256}
 use Rattle.kb_keys.specs.Policies.{role_at}
 use Rattle.kb_snap.specs.Builds.{OnceAllStored}
@@ -108,13 +108,15 @@ no_stop r is = cc
 
 -- a request that was made of what a session has
 pub asked : (sealed signed : List ℕ → List ℕ → List ℕ) (hashed : List ℕ → List ℕ) (d : ℕ) (secret key : List ℕ) (moment : ℕ) (s : Inside) (x : Plan) (t : Tree) (request : FolderRequest) (pointers left : Kept) (b : Branch)
-    → key_at x.ring x.generation ≡ Some key → b ≡ branch_at d moment (plain s.journal) → left ≡ empty → IsMergeRequest sealed signed hashed secret key x.generation (x.number + 1) x.hash b t left request
+    → key_at x.ring x.generation ≡ Some key → b ≡ branch_at d moment (plain s.journal) → LeavesSame x.merged t x.kept left → IsMergeRequest sealed signed hashed secret key x.generation (x.number + 1) x.hash b t left request
     → OnceAllStored hashed sealed x.generation key request.blocks (λ vault. AllHold vault (look t) left → AllHold vault (look t) pointers) → IsAsked sealed signed hashed d secret moment s x t request pointers
-asked sealed signed hashed d secret key moment s x t request pointers left b keyed branch none made holds = record {
+asked sealed signed hashed d secret key moment s x t request pointers left b keyed branch leaves made holds = record {
   key = key;
   keyed = keyed;
-  made = subst (λ a. IsMergeRequest sealed signed hashed secret key x.generation (x.number + 1) x.hash a t empty request) branch (subst (λ l. IsMergeRequest sealed signed hashed secret key x.generation (x.number + 1) x.hash b t l request) none made);
-  holds = subst (λ l. OnceAllStored hashed sealed x.generation key request.blocks (λ vault. AllHold vault (look t) l → AllHold vault (look t) pointers)) none holds;
+  left = left;
+  leaves = leaves;
+  made = subst (λ a. IsMergeRequest sealed signed hashed secret key x.generation (x.number + 1) x.hash a t left request) branch made;
+  holds = holds;
 }
 
 -- it was put
@@ -125,7 +127,7 @@ asks_by sealed signed hashed f g d secret moment tree s was t now o x request po
   planned = planned;
   request = request;
   pointers = pointers;
-  asked = record { key = a.key; keyed = a.keyed; made = a.made; holds = a.holds };
+  asked = record { key = a.key; keyed = a.keyed; left = a.left; leaves = a.leaves; made = a.made; holds = a.holds };
   put = put;
 }
 

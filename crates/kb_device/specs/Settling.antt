@@ -1,6 +1,5 @@
 -- How a branch is resolved.
 use Rattle.std.specs.Prelude.{◌≡◌, ℕ, ◌+◌, ◌≤◌, ◌<◌, ◌&&◌, nat_le, nat_lt, is_some, IsSome, Bool, true, false, List, length, Option, Some, None, Result, Ok, Err}
-use Rattle.std.specs.FinMap.{empty}
 use Rattle.sha2.specs.Sha256.{sha256}
 use Rattle.kb_ops.specs.Trees.{Tree, look}
 use Rattle.kb_keys.specs.declared.policy.Role.{Role}
@@ -18,6 +17,7 @@ use Rattle.kb_rules.specs.declared.report.Report.{Report}
 use Rattle.kb_rules.specs.Merge.{report}
 use Rattle.kb_snap.specs.Chains.{merged_tree, stamp_of}
 use Rattle.kb_device.specs.Journals.{plain}
+use Rattle.kb_device.specs.Left.{LeavesSame}
 use Rattle.kb_folder.specs.Puts.{Held, Puts}
 use Rattle.kb_device.specs.Merging.{merge_plain, IsMergeRequest}
 use Rattle.kb_device.specs.SettlesFor.{branch_at}
@@ -58,12 +58,14 @@ IsMergeOf d name moment s x t = t ≡ merged_tree x.base x.merged s.shown (stamp
 abbrev pub report_of : ℕ → List ℕ → ℕ → Inside → Plan → Report
 report_of d name moment s x = report x.base x.merged s.shown (stamp_in d name moment s)
 
--- A request of the branch as the revision behind the plan's, whose tree is this one; once its blocks are stored, the pointers hold rows of it.
+-- A request of the branch as the revision behind the plan's, whose tree is this one, over pointers of the plan's tree that the merge leaves; once its blocks are stored, the pointers hold rows of it.
 pub record IsAsked (sealed signed : List ℕ → List ℕ → List ℕ) (hashed : List ℕ → List ℕ) (d : ℕ) (secret : List ℕ) (moment : ℕ) (s : Inside) (x : Plan) (t : Tree) (request : FolderRequest) (pointers : Kept) : Type 0 where
   pub key : List ℕ
   pub keyed : key_at x.ring x.generation ≡ Some key
-  pub made : IsMergeRequest sealed signed hashed secret key x.generation (x.number + 1) x.hash (branch_at d moment (plain s.journal)) t empty request
-  pub holds : OnceAllStored hashed sealed x.generation key request.blocks (λ vault. AllHold vault (look t) empty → AllHold vault (look t) pointers)
+  pub left : Kept
+  pub leaves : LeavesSame x.merged t x.kept left
+  pub made : IsMergeRequest sealed signed hashed secret key x.generation (x.number + 1) x.hash (branch_at d moment (plain s.journal)) t left request
+  pub holds : OnceAllStored hashed sealed x.generation key request.blocks (λ vault. AllHold vault (look t) left → AllHold vault (look t) pointers)
 
 module _ (sealed signed : List ℕ → List ℕ → List ℕ) (hashed : List ℕ → List ℕ) (f g : Held) (d : ℕ) (secret : List ℕ) (moment : ℕ) (tree : Tree) (s : Inside) (was : Platter) (t : Inside) (now : Platter) where
   -- the merge of the plan was put, with this answer

@@ -15,6 +15,7 @@ mod laws;
 mod left_pointers;
 mod lent;
 mod merge_requests;
+mod merged_pointers;
 mod opened;
 mod opening;
 mod part_laws;

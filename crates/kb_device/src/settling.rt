@@ -16,6 +16,7 @@ ghost use Rattle.kb_device.specs.declared.settled.SettleFault.TheVariants as sto
 
 use crate::head::Goal;
 use crate::merge_requests::merge_request;
+use crate::merged_pointers::left_by_merge;
 use crate::session::Session;
 use crate::settled::SettleFault;
 use crate::step_requests::StepMade;
@@ -68,7 +69,7 @@ impl<D: Disk> Session<D> {
             && goal.ring.key(goal.generation).is_some()
     }
 
-    // The request of the merge, whose tree is the table.
+    // The request of the merge, whose tree is the table. The rows that the merged tree had already keep their blocks.
     fn merge_of<S: Sealer, H: BlockHash>(
         &self,
         alloc: Global,
@@ -90,7 +91,7 @@ impl<D: Disk> Session<D> {
             unreachable!()
         };
         let ops = copies(alloc, queue)?;
-        let left = Pointers::new(alloc);
+        let left = left_by_merge(alloc, &goal.pointers, &goal.merged, table)?;
         merge_request::<S, H>(
             alloc,
             table,

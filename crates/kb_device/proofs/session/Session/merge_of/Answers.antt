@@ -19,6 +19,6 @@ returns g c =
     λ i. let b : Branch = record { device = c.args.d; moment = c.args.moment; base = c.known.ensures i; first = first_is i; last = last_is i; ops = ops_is i } in b in
     let keyed : key_at c.args.goal.now.ring c.args.goal.now.generation ≡ Some c.in-Some.key.now = sym c.key.ensures ∙ ap option_copied c.in-Some.is in
     both c.merge_request.result _ _ _
-    (λ made m p. asked g.S.Sealer.sealed g.S.Sealer.signed g.H.BlockHash.hashed c.args.d c.args.secret.now c.in-Some.key.now c.args.moment (inside c.args.self.now) (plan_of c.args.goal.now) c.args.table.now.tree made.request made.pointers c.new-left.result
-    (branch_of c.args.d c.args.moment c.known.result (c.last-last.result - c.queue_len-count.result + 1) c.last-last.result c.in_ok-ops.ops.items) keyed branch c.new-left.ensures m p)
+    (λ made m p. asked g.S.Sealer.sealed g.S.Sealer.signed g.H.BlockHash.hashed c.args.d c.args.secret.now c.in-Some.key.now c.args.moment (inside c.args.self.now) (plan_of c.args.goal.now) c.args.table.now.tree made.request made.pointers c.in_ok-left.left
+    (branch_of c.args.d c.args.moment c.known.result (c.last-last.result - c.queue_len-count.result + 1) c.last-last.result c.in_ok-ops.ops.items) keyed branch c.in_ok-left.ensures m p)
     c.merge_request.ensures.merge c.merge_request.ensures.pointers

@@ -1,0 +1,10 @@
+use Rattle.std.proofs.Common.{◌≡◌, Some, take}
+use Rattle.std.specs.List.{AllByRecursion}
+use Rattle.std.specs.FinMap.{get}
+use Rattle.kb_blocks.specs.declared.pointer.Ptr.{Ptr}
+use Rattle.kb_name.specs.declared.ids.NodeId.{NodeId}
+use Rattle.kb_device.specs.Left.{IsStillThere}
+use Rattle.kb_device.proofs.merged_pointers.forget_all_gone.Given as goal
+
+abbrev pub invariant-loop-row : goal.invariant-loop-row
+invariant-loop-row l = (q : NodeId) (p : Ptr) → get l.pointers q ≡ Some p → (get l.fn.pointers q ≡ Some p) × AllByRecursion (IsStillThere l.old.tree l.new.tree q) (take l.row-index l.rows)
