@@ -1,3 +1,4 @@
+pub mod Crossing
 pub mod Keeping
 pub mod Lists
 pub mod Meets
