@@ -30,5 +30,6 @@ pub mod Recounts
 pub mod Unchanged
 pub mod Borrows
 pub mod WorldChain
+pub mod Looked
 pub mod BranchTurns
 pub mod BranchWorlds

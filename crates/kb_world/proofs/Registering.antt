@@ -56,7 +56,7 @@ module _ (sealed signed : List ℕ → List ℕ → List ℕ) (hashed : List ℕ
   remembers_one c known hash generation k h = record { within = h.within; hash_is = h.hash_is; generation_is = h.generation_is; held = h.held }
 
   plan_one : (c : Chain) (known : ℕ) (x : Plan) → PlanStands sealed hashed seed f c known x → PlanStands sealed hashed seed with_one c known x
-  plan_one c known x h = record { merged = h.merged; remembers = remembers_one c x.number x.hash x.generation x.kept h.remembers; ring = h.ring; base = h.base }
+  plan_one c known x h = record { merged = h.merged; remembers = remembers_one c x.number x.hash x.generation x.kept h.remembers; ring = h.ring; base = h.base; ops = h.ops; plain = h.plain }
 
   session_one : (c : Chain) (s : Inside) (p : Part) → SessionStands sealed signed hashed seed names f c s p → SessionStands sealed signed hashed seed names with_one c s p
   session_one c s p h = record {
