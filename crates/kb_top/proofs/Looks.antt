@@ -1,5 +1,5 @@
 -- What `folder` and `tree` tell of a state, which they leave as it is.
-use Rattle.std.proofs.Common.{◌≡◌, ℕ, ◌+◌, ◌-◌, true, false, List, [], ◌∷◌, ◌++◌, length, Option, Some, None, Ok, Err, Result, refl, sym, ap, ◌∙◌, subst}
+use Rattle.std.proofs.Common.{◌≡◌, ℕ, ◌+◌, ◌-◌, true, false, List, [], ◌∷◌, ◌++◌, length, Option, Some, None, Ok, Err, Result, inl, inr, refl, sym, ap, ◌∙◌, subst}
 use Rattle.std.specs.Prelude.{slice_get, if◌then◌else◌}
 use Rattle.kb_ops.specs.declared.requests.Show.TheVariants as asks
 use Rattle.kb_ops.specs.declared.requests.Shown.{Shown}
@@ -28,14 +28,12 @@ record Still (s : State) (act : Act) : Type 0 where
   other : (d : ℕ) → act ≡ On d machine.Open → ⊥
 
 lacks_still : (s t : State) (act : Act) → Still s act → Lacks (Some act) s t → t ≡ s
-lacks_still s t act still h =
-    elim h [
-      inl same ↦ same
-    | inr opens ↦ absurd (still.other opens.0 (let e = opens.1 in cc))
-    ]
+lacks_still s t act still (inl same) = same
+lacks_still s t act still (inr opens) = absurd (still.other opens.0 (let e = opens.1 in cc))
 
 lacks_none : (s t : State) → Lacks None s t → t ≡ s
-lacks_none s t h = elim h [ inl same ↦ same | inr opens ↦ (let e = opens.1 in cc) ]
+lacks_none s t (inl same) = same
+lacks_none s t (inr opens) = (let e = opens.1 in cc)
 
 parts_still : (s t : State) (act : Act) → Still s act → (replies : List Reply) (mid : State) → Progress (machine.Do act) [] s replies mid → Lacks (next (machine.Do act) replies) mid t → t ≡ s
 parts_still s t act still [] mid part lacks = lacks_still s t act still (subst (λ u. Lacks (Some act) u t) part lacks)

@@ -1,5 +1,7 @@
 //! The words of the command line.
 ghost use Rattle.std.specs.Prelude.{◌≡◌, ◌≤◌, ℕ, IsTrue, MatchOption, decimal};
+ghost use Rattle.std.specs.Char.{is_ascii_digit};
+ghost use Rattle.std.specs.List.{list_all};
 ghost use Rattle.kb_edge.specs.Causes.{Rose};
 ghost use Rattle.kb_world.specs.Machine.{new_state};
 ghost use Rattle.kb_folder.specs.Chains.{Names};
@@ -95,5 +97,11 @@ fn is_numeral(word: &str) -> bool
     ensures { result ≡ is_numeral word.now }
 {
     let digits = word.as_bytes();
-    digits.iter().all(|digit| digit.is_ascii_digit()) && !digits.is_empty() && digits[0] != b'0'
+    are_digits(digits) && !digits.is_empty() && digits[0] != b'0'
+}
+
+fn are_digits(word: &[u8]) -> bool
+    ensures { result ≡ list_all is_ascii_digit word.now }
+{
+    word.iter().all(|digit| digit.is_ascii_digit())
 }
