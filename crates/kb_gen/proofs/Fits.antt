@@ -20,17 +20,34 @@ ending_fits : AllFitFrom 2 true ending
 ending_fits = ((refl, (omega arith, omega arith)), ((refl, (omega arith, omega arith)), ((refl, (omega arith, omega arith)), ((refl, (omega arith, omega arith)), tt))))
 
 beginning_fits : (rest : List Statement) → AllFitFrom 2 true rest → AllFitFrom 0 false (beginning ++ rest)
-beginning_fits rest fit =
-    (omega arith,
-    ((omega arith, refl, omega arith, omega arith),
-    ((omega arith, refl, omega arith, omega arith),
-    ((refl, (omega arith, omega arith)),
-    ((refl, (omega arith, omega arith), (omega arith, omega arith)),
-    ((refl, (omega arith, omega arith)),
-    ((refl, (omega arith, omega arith)),
-    ((refl, (omega arith, omega arith)),
-    ((refl, (omega arith, omega arith)),
-    fit)))))))))
+beginning_fits rest fit = (
+  omega arith,
+  (
+    (omega arith, refl, omega arith, omega arith),
+    (
+      (omega arith, refl, omega arith, omega arith),
+      (
+        (refl, (omega arith, omega arith)),
+        (
+          (refl, (omega arith, omega arith), (omega arith, omega arith)),
+          (
+            (refl, (omega arith, omega arith)),
+            (
+              (refl, (omega arith, omega arith)),
+              (
+                (refl, (omega arith, omega arith)),
+                (
+                  (refl, (omega arith, omega arith)),
+                  fit,
+                ),
+              ),
+            ),
+          ),
+        ),
+      ),
+    ),
+  ),
+)
 
 in_turn : (number : ℕ) → generated number ≡ beginning ++ (files laptop (codes "l") number ++ (files phone (codes "p") number ++ ending))
 in_turn number =

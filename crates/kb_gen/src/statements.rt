@@ -15,6 +15,7 @@ use std::alloc::Global;
 
 // The devices, in the order in which they are declared.
 const LAPTOP: u16 = 1;
+
 const PHONE: u16 = 2;
 
 /// The bytes of each device's disk.

@@ -7,10 +7,12 @@ use std::test::Fail;
 // Whether a device makes the file at this path.
 fn makes(statement: Option<&Statement>, number: u16, word: &str) -> bool {
     match statement {
-        Some(Statement::File {
-            device,
-            request: Request::Mkfile { path },
-        }) => *device == number && path.as_str() == word,
+        Some(
+            Statement::File {
+                device,
+                request: Request::Mkfile { path },
+            },
+        ) => *device == number && path.as_str() == word,
         _ => false,
     }
 }
@@ -18,14 +20,16 @@ fn makes(statement: Option<&Statement>, number: u16, word: &str) -> bool {
 // Whether a device writes this text from the start of the file at this path.
 fn writes(statement: Option<&Statement>, number: u16, word: &str, text: &[u8]) -> bool {
     match statement {
-        Some(Statement::File {
-            device,
-            request: Request::Write {
-                path,
-                offset: 0,
-                bytes,
+        Some(
+            Statement::File {
+                device,
+                request: Request::Write {
+                    path,
+                    offset: 0,
+                    bytes,
+                },
             },
-        }) => *device == number && path.as_str() == word && bytes.as_slice() == text,
+        ) => *device == number && path.as_str() == word && bytes.as_slice() == text,
         _ => false,
     }
 }

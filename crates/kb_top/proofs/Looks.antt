@@ -84,15 +84,17 @@ one_line names d reply replies e = ap (all_printed names d) e
 
 pub folder_tells : (names : Names) (s t : State) (lines : List Line) → Does names s said.Folder lines t → (t ≡ s) × (revisions_told lines ≡ length s.chain)
 folder_tells names s t lines does =
-    let one = once s ListChain does.replies t does.steps in
-    (one.step.1,
-    ap revisions_told (does.lines_are ∙ one_line names 0 one.reply does.replies one.replies_are ∙ ap (λ reply. printed names 0 reply ++ []) one.step.0))
+    let one = once s ListChain does.replies t does.steps in (
+      one.step.1,
+      ap revisions_told (does.lines_are ∙ one_line names 0 one.reply does.replies one.replies_are ∙ ap (λ reply. printed names 0 reply ++ []) one.step.0),
+    )
 
 pub tree_tells : (names : Names) (s t : State) (lines : List Line) → Does names s (said.Look 1 asks.Tree) lines t → (t ≡ s) × (rows_told lines ≡ laptop_rows s)
 tree_tells names s t lines does =
     let one = once s (See 1 (machine.Look asks.Tree)) does.replies t does.steps in
-    let shows = one.step.shows in
-    (one.step.state,
-    ap rows_told (does.lines_are ∙ one_line names 1 one.reply does.replies one.replies_are ∙ ap (λ reply. printed names 1 reply ++ []) shows.2)
-    ∙ look_rows one.step.member.part (names 1) shows.0 shows.1
-    ∙ first_rows s one.step.member one.step.found)
+    let shows = one.step.shows in (
+      one.step.state,
+      ap rows_told (does.lines_are ∙ one_line names 1 one.reply does.replies one.replies_are ∙ ap (λ reply. printed names 1 reply ++ []) shows.2)
+          ∙ look_rows one.step.member.part (names 1) shows.0 shows.1
+          ∙ first_rows s one.step.member one.step.found,
+    )

@@ -40,10 +40,10 @@ module _ {A : Type 0} (words : List (String A)) where
   none_of_two w v is no = (
     λ run. (let e : w ∷ v ∷ [] ≡ codes "run" ∷ [] = sym is ∙ run in cc),
     λ n gen.
-      let e : w ∷ v ∷ [] ≡ codes "gen" ∷ decimal n ∷ [] = sym is ∙ gen.words_are in
-      let first : w ≡ codes "gen" = cc in
-      let second : v ≡ decimal n = cc in
-      no n gen.from gen.to first second,
+        let e : w ∷ v ∷ [] ≡ codes "gen" ∷ decimal n ∷ [] = sym is ∙ gen.words_are in
+        let first : w ≡ codes "gen" = cc in
+        let second : v ≡ decimal n = cc in
+        no n gen.from gen.to first second,
   )
 
   pub none_of_more : (length words ≡ 1 → ⊥) → (length words ≡ 2 → ⊥) → AsksFor words Nothing

@@ -92,9 +92,7 @@ fn summary_of(
 ) -> Result<String, Memory>
     ensures { IfOk result (λ text. string_bytes text ≡ summary_of number revisions rows names) }
 {
-    Ok(format!(in alloc;
-        "gen {number}: revisions {revisions} rows {rows} renamed {names}\n"
-    )?)
+    Ok(format!(in alloc; "gen {number}: revisions {revisions} rows {rows} renamed {names}\n")?)
 }
 
 // How many revisions the folder has.

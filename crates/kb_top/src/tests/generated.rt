@@ -7,7 +7,13 @@ use std::alloc::Global;
 use std::test::Fail;
 
 // Whether a command line of two words ends so and puts this.
-fn ends(alloc: Global, first: &str, second: &str, status: Status, text: &str) -> Result<bool, Fail> {
+fn ends(
+    alloc: Global,
+    first: &str,
+    second: &str,
+    status: Status,
+    text: &str,
+) -> Result<bool, Fail> {
     let first = String::from_str(alloc, first)?;
     let second = String::from_str(alloc, second)?;
     let words = vec![in alloc; first, second]?;
