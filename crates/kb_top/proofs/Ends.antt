@@ -14,7 +14,7 @@ use Rattle.kb_folder.specs.Chains.{Names}
 use Rattle.kb_world.specs.Standing.{WorldStands}
 use Rattle.kb_world.specs.declared.world.World.{World}
 use Rattle.kb_top.specs.Inputs.{IsInput, HasFault, fault_text, TellsScript, TellsNoScript}
-use Rattle.kb_top.specs.Outcomes.{NothingRan, Ran, OfScript, OfNoScript, Headline, IsTold, IsComplete}
+use Rattle.kb_top.specs.Outcomes.{NothingRan, RanWhole, OfScript, OfNoScript, Headline, IsTold, IsComplete}
 use Rattle.kb_top.specs.declared.input.TheConstants.{SCRIPT_LIMIT}
 use Rattle.kb_top.specs.declared.status.Status.{Status}
 use Rattle.kb_top.specs.declared.status.Status.TheVariants.{Done, Usage, Script, ReadFault, WriteFault, Memory}
@@ -85,7 +85,7 @@ taken stands world before now (Some all) P h tells =
 pub complete : {W : Type 0} (stands : Names → W → State → Type 0) (world : W) (before now source : Option (List ℕ)) (read_before read_now put_before put_now : ℕ) (status : Status)
     → Headline stands world before now source status → (status ≡ ReadFault → Rose read_before read_now) → (status ≡ WriteFault → Rose put_before put_now)
     → IsComplete source read_before read_now put_before put_now status
-complete stands world before now source rb rn pb pn Done h read write = record { runs = λ r p tells. inl refl; tells = λ r p tells. absurd (taken stands world before now source (λ statements. Ran stands world before now statements) h tells) }
+complete stands world before now source rb rn pb pn Done h read write = record { runs = λ r p tells. inl refl; tells = λ r p tells. absurd (taken stands world before now source (λ statements. RanWhole stands world before now statements) h tells) }
 complete stands world before now source rb rn pb pn Memory h read write = record { runs = λ r p tells. inr refl; tells = λ r p tells. inr refl }
 complete stands world before now source rb rn pb pn Script h read write = record { runs = λ r p tells. absurd (refused stands world before now source (λ text. NothingRan stands world before now text) h tells); tells = λ r p tells. inl refl }
 complete stands world before now source rb rn pb pn ReadFault h read write = record { runs = λ r p tells. absurd (r (read refl)); tells = λ r p tells. absurd (r (read refl)) }

@@ -1,5 +1,6 @@
 //! Whole runs over ends in memory.
 mod branches;
+mod generated;
 mod scripts;
 
 use crate::{Status, run_script, run_words};
