@@ -44,7 +44,7 @@ told w h =
     }
 
 all_so : (a : Bool) (n first : ℕ) → a ≡ true → 0 < n → 48 < first → (a && (not (eqb n 0) && not (eqb first 48))) ≡ true
-all_so a n first yes some above = grind (arith, nat_tests)
+all_so a n first digits some more = grind (arith, nat_tests)
 
 numeral : (n : ℕ) → 1 ≤ n → n ≤ 1000 → is_numeral (decimal n) ≡ true
 numeral n from to = all_so _ _ _ (digits_decimal own n (omega arith)) (decimal_nonempty n (omega arith)) (first_decimal n (omega arith) (omega arith))
@@ -56,13 +56,13 @@ ok_is (Ok x) n v P h e = (h.0, let same : x ≡ n = cc in sym same ∙ h.1)
 ok_is (Err x) n v P h e = cc
 
 pub spelled : {E : Type 0} (w : List ℕ) (r : Result ℕ E) (n : ℕ) → ParsesUnsigned 32 10 w r → is_numeral w ≡ true → r ≡ Ok n → w ≡ decimal n
-spelled w r n parses yes e =
-    let is = told w yes in
+spelled w r n parses numeral e =
+    let is = told w numeral in
     let read = ok_is r n (digits_value 10 w) _ (parse_digits own 32 w r parses is.digits) e in
     sym (ap decimal read.1 ∙ decimal-digits_value own w is.digits is.some (λ zero. absurd (is.first zero)) (omega (arith, read.0.1)))
 
 pub not_numeral : (w : List ℕ) → is_numeral w ≡ false → (n : ℕ) → 1 ≤ n → n ≤ 1000 → w ≡ decimal n → ⊥
-not_numeral w no n from to e = (let yes : is_numeral w ≡ true = ap is_numeral e ∙ numeral n from to in cc)
+not_numeral w other n from to e = (let is : is_numeral w ≡ true = ap is_numeral e ∙ numeral n from to in cc)
 
 pub parsed : {E : Type 0} (w : List ℕ) (r : Result ℕ E) (n : ℕ) → ParsesUnsigned 32 10 w r → 1 ≤ n → n ≤ 1000 → w ≡ decimal n → r ≡ Ok n
 parsed w r n parses from to e = parse-decimal 32 n w r (omega arith) (omega arith) e parses
