@@ -1,5 +1,5 @@
 //! The words of the command line.
-ghost use Rattle.std.specs.Prelude.{◌≡◌, ◌≤◌, ℕ, IsTrue, MatchOption, decimal};
+ghost use Rattle.std.specs.Prelude.{◌≡◌, ◌≤◌, ◌↔◌, ℕ, IsTrue, MatchOption, decimal};
 ghost use Rattle.std.specs.Char.{is_ascii_digit};
 ghost use Rattle.std.specs.List.{list_all};
 ghost use Rattle.kb_edge.specs.Causes.{Rose};
@@ -86,10 +86,17 @@ fn number_of(word: &str) -> Option<u32>
     let Ok(number) = word.parse::<u32>() else {
         return None;
     };
-    if number < 1 || number > 1000 {
+    if !is_in_range(number) {
         return None;
     }
     Some(number)
+}
+
+// Whether there are statements for the number.
+fn is_in_range(number: u32) -> bool
+    ensures { IsTrue result ↔ (1 ≤ number) × (number ≤ 1000) }
+{
+    number >= 1 && number <= 1000
 }
 
 // Whether a word is digits of which the first isn't 0.
