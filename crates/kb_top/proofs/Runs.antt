@@ -1,6 +1,6 @@
 -- Runs go on, statement by statement.
-use Rattle.std.proofs.Common.{◌≡◌, ◌≤◌, ℕ, zero, suc, ◌+◌, false, List, [], ◌∷◌, ◌++◌, take, Option, Some, None, inl, refl, sym, ap, ◌∙◌, subst, append_assoc, append-nil, add-one, arith}
-use Rattle.std.specs.Prelude.{slice_get, map, All}
+use Rattle.std.proofs.Common.{◌≡◌, ◌≤◌, ℕ, zero, suc, ◌+◌, false, List, [], ◌∷◌, ◌++◌, take, Option, Some, None, Result, Ok, Err, inl, refl, sym, ap, ◌∙◌, subst, append_assoc, append-nil, add-one, arith}
+use Rattle.std.specs.Prelude.{OnErr, slice_get, map, All}
 use Rattle.std.specs.List.{fold}
 use Rattle.std.specs.Io.KnownBytes.{Appends}
 use Rattle.std.proofs.lemmas.List.{map-append}
@@ -40,6 +40,12 @@ Appends-both None b c bs cs p q = tt
 Appends-both (Some x) None c bs cs p q = absurd p
 Appends-both (Some x) (Some y) None bs cs p q = absurd q
 Appends-both (Some x) (Some y) (Some z) bs cs p q = q ∙ ap (λ l. l ++ cs) p ∙ append_assoc x bs cs
+
+-- ---- an answer that is an error
+
+pub on_err : {A E : Type 0} (r : Result A E) (P : Type 0) → P → OnErr r P
+on_err (Ok x) P p = tt
+on_err (Err e) P p = p
 
 -- ---- one statement more
 
@@ -129,6 +135,11 @@ Moves {W} stands old new statement P = (names : Names) (s : State) → stands na
 module _ {W : Type 0} (stands : Names → W → State → Type 0) where
   pub new_run : (world : W) (names : Names) → ((names : Names) → stands names world new_state) → HasRun stands names world []
   new_run world names is = record { each = []; state = new_state; run = refl; stands_for = is names; after = (refl, λ none. refl) }
+
+  -- and no names were given
+  pub new_untold : (world : W) (names : Names) → ((names : Names) → stands names world new_state) → (ran : HasRun stands names world []) × (0 ≡ names_given ran.each)
+  unfolding new_run
+  new_untold world names is = (new_run world names is, refl)
 
   pub none_ran : (world : W) (names : Names) (held : Option (List ℕ)) (faults : ℕ) → ((names : Names) → stands names world new_state) → IsRunning stands names world held held faults faults []
   none_ran world names held faults is = record { ran = new_run world names is; bytes = Appends-none held; later = omega arith }

@@ -1,4 +1,4 @@
-use Rattle.std.proofs.Common.{◌≡◌, ◌∙◌, ◌++◌, ap, sym, subst, inl, inr, None, [], take}
+use Rattle.std.proofs.Common.{◌≡◌, ◌∙◌, ◌++◌, ap, sym, refl, subst, inl, inr, None, [], take}
 use Rattle.std.specs.Io.KnownBytes.{Appends}
 use Rattle.kb_script.specs.Fit.{AllFit}
 use Rattle.kb_gen.specs.Generated.{generated}
@@ -60,3 +60,18 @@ returns-clause-end g c =
     gen_cut n w c.summary.new.world c.in-Ok-run_untold.names untold c.summary.ensures.stays old now c.as_bytes.result.now
     (λ under s h. c.as_bytes.ensures.value ∙ c.in-Ok-summary.ensures.text under s h)
     c.in-Err-put.ensures.bytes.0 c.in-Err-put.ensures.bytes.1
+
+pub returns-in-Err-clause-complete : goal.returns-in-Err-clause-complete
+returns-in-Err-clause-complete g c = λ calm. inr refl
+
+pub returns-in-Err-run_untold-clause-complete : goal.returns-in-Err-run_untold-clause-complete
+returns-in-Err-run_untold-clause-complete g c = λ calm. inr refl
+
+pub returns-in-Err-summary-clause-complete : goal.returns-in-Err-summary-clause-complete
+returns-in-Err-summary-clause-complete g c = λ calm. inr refl
+
+pub returns-in-Ok-put-clause-complete : goal.returns-in-Ok-put-clause-complete
+returns-in-Ok-put-clause-complete g c = λ calm. inl refl
+
+pub returns-clause-complete : goal.returns-clause-complete
+returns-clause-complete g c = λ calm. absurd (calm c.in-Err-put.ensures.cause.failed)

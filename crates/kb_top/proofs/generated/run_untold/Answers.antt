@@ -6,11 +6,11 @@ use Rattle.std.proofs.lemmas.List.{take_all}
 use Rattle.kb_world.specs.Standing.{WorldStands}
 use Rattle.kb_top.specs.Replies.{names_in}
 use Rattle.kb_top.specs.Summaries.{names_told}
-use Rattle.kb_top.proofs.Runs.{new_run, one_untold, all_untold, ended, may_be_done}
+use Rattle.kb_top.proofs.Runs.{new_untold, one_untold, all_untold, ended, on_err, may_be_done}
 use Rattle.kb_top.proofs.generated.run_untold.Goals as goal
 
 pub loop-statement-init : goal.loop-statement-init
-loop-statement-init g c = (new_run WorldStands c.args.world.now (names_in c.args.statements.now) c.requires.new, refl)
+loop-statement-init g c = new_untold WorldStands c.args.world.now (names_in c.args.statements.now) c.requires.new
 
 pub step-requires : goal.step-requires
 step-requires g c =
@@ -27,7 +27,7 @@ returns-in_err-lines-clause-memory g c =
     let all = c.args.statements.now in
     let it = c.statement-item.result in
     let next : slice_get all i ≡ Some it = slice_get_read all (length all) i it refl c.loop-statement-test.true c.statement-item.is in
-    ended WorldStands c.loop-statement.world c.step.new.self all c.requires.fit i it next c.loop-statement.invariant.0 None None (λ first each. []) tt c.in_err-lines.ensures.memory
+    on_err _ _ (ended WorldStands c.loop-statement.world c.step.new.self all c.requires.fit i it next c.loop-statement.invariant.0 None None (λ first each. []) tt c.in_err-lines.ensures.memory)
 
 pub loop-statement-preserved : goal.loop-statement-preserved
 loop-statement-preserved g c =
@@ -37,7 +37,7 @@ loop-statement-preserved g c =
     let next : slice_get all i ≡ Some it = slice_get_read all (length all) i it refl c.loop-statement-test.true c.statement-item.is in
     let so_far = c.loop-statement.invariant in
     one_untold WorldStands c.loop-statement.world c.step.new.self all c.requires.fit i it next so_far.0 c.in_ok-lines.lines.items c.in_ok-lines.ensures.step
-    c.loop-statement.names so_far.1 c.names_told.result (c.names_told.ensures ∙ ap (fold names_told c.loop-statement.names) c.deref.ensures.value)
+    c.loop-statement.names so_far.1 c.names_told-names.result (c.names_told-names.ensures ∙ ap (fold names_told c.loop-statement.names) c.deref.ensures.value)
 
 pub returns-clause-ran : goal.returns-clause-ran
 returns-clause-ran g c =

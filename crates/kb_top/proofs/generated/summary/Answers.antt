@@ -1,7 +1,22 @@
-use Rattle.std.proofs.Common.{◌≡◌, ℕ, ◌∙◌, ap, subst, length}
+use Rattle.std.proofs.Common.{◌≡◌, ◌≤◌, ℕ, ◌∙◌, ap, subst, length, arith}
 use Rattle.kb_world.specs.Machine.{State}
 use Rattle.kb_top.specs.Summaries.{summary_of, laptop_rows}
 use Rattle.kb_top.proofs.generated.summary.Goals as goal
+
+pub laptop_rows-requires : goal.laptop_rows-requires
+laptop_rows-requires g c =
+    let was = c.requires.stands in
+    let now = c.revisions.ensures.stays was.0 was.1 was.2 in
+    record { stands = (was.0, was.1, now); declared = omega (arith, was.2.count, now.count, c.requires.declared) }
+
+pub returns-in_err-rows-clause-stays : goal.returns-in_err-rows-clause-stays
+returns-in_err-rows-clause-stays g c = λ under s h. c.laptop_rows.ensures.stays under s (c.revisions.ensures.stays under s h)
+
+pub returns-in_err-text-clause-stays : goal.returns-in_err-text-clause-stays
+returns-in_err-text-clause-stays g c = λ under s h. c.laptop_rows.ensures.stays under s (c.revisions.ensures.stays under s h)
+
+pub returns-clause-stays : goal.returns-clause-stays
+returns-clause-stays g c = λ under s h. c.laptop_rows.ensures.stays under s (c.revisions.ensures.stays under s h)
 
 pub returns-clause-text : goal.returns-clause-text
 returns-clause-text g c = λ under s h.

@@ -32,5 +32,8 @@ pub returns-in-Gen-clause-read : goal.returns-in-Gen-clause-read
 returns-in-Gen-clause-read g c =
     gen_not_read WorldStands c.run_gen.new.world (g.K.Sink.held c.args.sink.now) (g.K.Sink.held c.run_gen.new.sink) c.in-Gen.number c.run_gen.result _ c.run_gen.ensures.end
 
+pub returns-in-Err-clause-run : goal.returns-in-Err-clause-run
+returns-in-Err-clause-run g c = λ run. absurd (c.in-Nothing.ensures.0 run)
+
 pub returns-in-Err-clause-usage : goal.returns-in-Err-clause-usage
 returns-in-Err-clause-usage g c = λ no other. (c.in-Err.ensures.bytes.0, record { stands_for = c.requires; bytes = c.in-Err.ensures.bytes.1 })
