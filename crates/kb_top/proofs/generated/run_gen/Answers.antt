@@ -49,7 +49,7 @@ returns-in-Ok-put-clause-end g c =
     (λ under s h. c.as_bytes.ensures.value ∙ c.in-Ok-summary.ensures.text under s h)
     c.in-Ok-put.ensures.bytes
 
-pub returns-clause-end : goal.returns-in-Err-put-clause-end
+pub returns-clause-end : goal.returns-clause-end
 returns-clause-end g c =
     let n = c.args.number in
     let w = c.run_untold.new.world in
