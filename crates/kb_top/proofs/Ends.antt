@@ -14,7 +14,7 @@ use Rattle.kb_folder.specs.Chains.{Names}
 use Rattle.kb_world.specs.Standing.{WorldStands}
 use Rattle.kb_world.specs.declared.world.World.{World}
 use Rattle.kb_top.specs.Inputs.{IsInput, HasFault, fault_text, TellsScript, TellsNoScript}
-use Rattle.kb_top.specs.Outcomes.{NothingRan, Ran, OfScript, OfNoScript, Headline, IsTold, IsComplete}
+use Rattle.kb_top.specs.Outcomes.{NothingRan, RanWhole, RunsTo, OfScript, OfNoScript, Headline, IsTold, IsComplete}
 use Rattle.kb_top.specs.declared.input.TheConstants.{SCRIPT_LIMIT}
 use Rattle.kb_top.specs.declared.status.Status.{Status}
 use Rattle.kb_top.specs.declared.status.Status.TheVariants.{Done, Usage, Script, ReadFault, WriteFault, Memory}
@@ -47,6 +47,21 @@ tells_headline world before now source bytes text (fault.BadLine line why) statu
 tells_headline world before now source bytes text fault.Memory status h input same has told memory =
     let none : IsTold before now [] Memory = subst (IsTold before now []) (memory refl) told in
     subst (λ s. Headline WorldStands world before now source s) (sym (memory refl)) (inl (record { stands_for = h; bytes = none }))
+
+-- a run of the source's script
+run_headline : {W : Type 0} (stands : Names → W → State → Type 0) (world : W) (before now source : Option (List ℕ)) (bytes : List ℕ) (statements : List Statement) (status : Status) → IsInput source bytes → IsScript false bytes statements
+    → RunsTo stands world before now statements status → Headline stands world before now source status
+run_headline stands world before now source bytes statements Done input is runs = (bytes, statements, input, is, runs)
+run_headline stands world before now source bytes statements Memory input is runs = inr (bytes, statements, input, is, runs)
+run_headline stands world before now source bytes statements WriteFault input is runs = inr (bytes, statements, input, is, runs)
+run_headline stands world before now source bytes statements Usage input is runs = absurd runs
+run_headline stands world before now source bytes statements Script input is runs = absurd runs
+run_headline stands world before now source bytes statements ReadFault input is runs = absurd runs
+
+pub ran_headline : {W : Type 0} (stands : Names → W → State → Type 0) (world : W) (before now source : Option (List ℕ)) (bytes text : List ℕ) (statements some : List Statement) (status : Status) → IsInput source bytes → text ≡ bytes → some ≡ statements
+    → IsScript false text statements → RunsTo stands world before now some status → Headline stands world before now source status
+ran_headline stands world before now source bytes text statements some status input same all is runs =
+    run_headline stands world before now source bytes statements status input (subst (λ l. IsScript false l statements) same is) (subst (λ l. RunsTo stands world before now l status) all runs)
 
 pub told_not_read : (before now : Option (List ℕ)) (text : List ℕ) (status : Status) (P : Type 0) → IsTold before now text status → status ≡ ReadFault → P
 told_not_read before now text Done P told e = absurd told
@@ -85,7 +100,7 @@ taken stands world before now (Some all) P h tells =
 pub complete : {W : Type 0} (stands : Names → W → State → Type 0) (world : W) (before now source : Option (List ℕ)) (read_before read_now put_before put_now : ℕ) (status : Status)
     → Headline stands world before now source status → (status ≡ ReadFault → Rose read_before read_now) → (status ≡ WriteFault → Rose put_before put_now)
     → IsComplete source read_before read_now put_before put_now status
-complete stands world before now source rb rn pb pn Done h read write = record { runs = λ r p tells. inl refl; tells = λ r p tells. absurd (taken stands world before now source (λ statements. Ran stands world before now statements) h tells) }
+complete stands world before now source rb rn pb pn Done h read write = record { runs = λ r p tells. inl refl; tells = λ r p tells. absurd (taken stands world before now source (λ statements. RanWhole stands world before now statements) h tells) }
 complete stands world before now source rb rn pb pn Memory h read write = record { runs = λ r p tells. inr refl; tells = λ r p tells. inr refl }
 complete stands world before now source rb rn pb pn Script h read write = record { runs = λ r p tells. absurd (refused stands world before now source (λ text. NothingRan stands world before now text) h tells); tells = λ r p tells. inl refl }
 complete stands world before now source rb rn pb pn ReadFault h read write = record { runs = λ r p tells. absurd (r (read refl)); tells = λ r p tells. absurd (r (read refl)) }

@@ -1,5 +1,5 @@
 -- Statements that fit may be done in the states of their run, and are a script of the plain machine.
-use Rattle.std.proofs.Common.{◌≡◌, ℕ, zero, suc, ◌+◌, ◌-◌, ◌<◌, Bool, true, false, List, [], ◌∷◌, ◌++◌, length, take, Option, Some, None, refl, sym, ap, ◌∙◌, subst, arith, length-append}
+use Rattle.std.proofs.Common.{◌≡◌, ℕ, zero, suc, ◌+◌, ◌-◌, ◌<◌, ◌≤◌, Bool, true, false, List, [], ◌∷◌, ◌++◌, length, take, Option, Some, None, refl, sym, ap, ◌∙◌, subst, arith, length-append}
 use Rattle.std.specs.Prelude.{slice_get, slice_index_or}
 use Rattle.std.specs.Option.{option_map}
 use Rattle.std.proofs.lemmas.List.{length-set}
@@ -12,7 +12,7 @@ use Rattle.kb_script.specs.declared.statements.Statement.TheVariants.{Seed, Devi
 use Rattle.kb_script.specs.Fit.{IsFit, AllFitFrom, declared_after, found_after}
 use Rattle.kb_world.specs.Statements.{Reply, Act, Turn, On, SetSeed, Declare, DoFound, DoRekey, SetMoment, See, ListChain}
 use Rattle.kb_world.specs.Statements as machine
-use Rattle.kb_world.specs.Machine.{State, ActStep, Progress, Steps, Stage, ToPick, ToLand, ToNote, ToFetch, ToSettle, stage_act, next_after, last_reply}
+use Rattle.kb_world.specs.Machine.{State, ActStep, Progress, Steps, Run, Stage, ToPick, ToLand, ToNote, ToFetch, ToSettle, stage_act, next_after, last_reply}
 use Rattle.kb_world.specs.RunLaws.{IsChange}
 use Rattle.kb_world.specs.RunReplies.{MayStand, MayFollow, declared_by, founded_by}
 use Rattle.kb_folder.specs.Chains.{Names}
@@ -77,15 +77,16 @@ names_next statements n statement e = tt
 -- ---- what a statement leaves
 
 -- a statement of one part
-record Once (s : State) (act : Act) (t : State) : Type 0 where
-  reply : Reply
-  step : ActStep s act reply t
+pub record Once (s : State) (act : Act) (replies : List Reply) (t : State) : Type 0 where
+  pub reply : Reply
+  pub replies_are : replies ≡ reply ∷ []
+  pub step : ActStep s act reply t
 
-once : (s : State) (act : Act) (replies : List Reply) (t : State) → Steps s (machine.Do act) replies t → Once s act t
+pub once : (s : State) (act : Act) (replies : List Reply) (t : State) → Steps s (machine.Do act) replies t → Once s act replies t
 once s act [] t h = cc
 once s act (reply ∷ []) t h =
     let same : act ≡ h.0.0 = (let e = h.0.2 in cc) in
-    record { reply = reply; step = subst (λ u. ActStep s act reply u) (sym h.0.4) (subst (λ a. ActStep s a reply h.0.1) (sym same) h.0.3) }
+    record { reply = reply; replies_are = refl; step = subst (λ u. ActStep s act reply u) (sym h.0.4) (subst (λ a. ActStep s a reply h.0.1) (sym same) h.0.3) }
 once s act (reply ∷ more ∷ replies) t h = (let e = h.0.4.2 in cc)
 
 -- each part of a statement is a turn of a device
@@ -221,3 +222,19 @@ may_follow count found (statement ∷ statements) fit = (
       (subst (λ b. MayFollow (declared_after count statement) b (plain statements)) (same_found found statement)
       (may_follow (declared_after count statement) (found_after found statement) statements fit.1)),
 )
+
+-- ---- after all statements
+
+pub all_after : (count : ℕ) (found : Bool) (statements : List Statement) (each : List (List Reply)) (s t : State) → AllFitFrom count found statements → After count found s → Run s (plain statements) each t
+    → After (declared_after_all count statements) (found_after_all found statements) t
+all_after count found [] [] s t fit was run = subst (λ u. After count found u) (sym run) was
+all_after count found (statement ∷ statements) (replies ∷ each) s t fit was run =
+    all_after (declared_after count statement) (found_after found statement) statements each run.0 t fit.1 (after s run.0 count found replies was statement fit.0 run.1) run.2
+all_after count found [] (replies ∷ each) s t fit was run = absurd run
+all_after count found (statement ∷ statements) [] s t fit was run = absurd run
+
+-- no statement takes a device away
+pub declared_grows : (count : ℕ) (statements : List Statement) → count ≤ declared_after_all count statements
+declared_grows count [] = omega arith
+declared_grows count (Device name size ∷ statements) = let more = declared_grows (count + 1) statements in omega (arith, more)
+declared_grows count (statement ∷ statements) = declared_grows count statements

@@ -1,4 +1,9 @@
 pub mod InputsRead
 pub mod Fits
+pub mod Told
+pub mod Looks
 pub mod Runs
 pub mod Ends
+pub mod Numerals
+pub mod Wording
+pub mod GenEnds

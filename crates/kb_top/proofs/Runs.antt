@@ -1,6 +1,7 @@
 -- Runs go on, statement by statement.
-use Rattle.std.proofs.Common.{◌≡◌, ◌≤◌, ℕ, zero, suc, ◌+◌, false, List, [], ◌∷◌, ◌++◌, take, Option, Some, None, inl, refl, sym, ap, ◌∙◌, subst, append_assoc, append-nil, add-one, arith}
-use Rattle.std.specs.Prelude.{slice_get, map, All}
+use Rattle.std.proofs.Common.{◌≡◌, ◌≤◌, ℕ, zero, suc, ◌+◌, false, List, [], ◌∷◌, ◌++◌, take, Option, Some, None, Result, Ok, Err, inl, refl, sym, ap, ◌∙◌, subst, append_assoc, append-nil, add-one, arith}
+use Rattle.std.specs.Prelude.{OnErr, slice_get, map, All}
+use Rattle.std.specs.List.{fold}
 use Rattle.std.specs.Io.KnownBytes.{Appends}
 use Rattle.std.proofs.lemmas.List.{map-append}
 use Rattle.std.proofs.lemmas.List.Elements.{All-take}
@@ -20,10 +21,12 @@ use Rattle.kb_world.proofs.Unfused.{unfused}
 use Rattle.kb_world.proofs.Determined.{runs_begin}
 use Rattle.kb_world.proofs.Begins.{scripts_answered}
 use Rattle.kb_folder.specs.Chains.{Names}
-use Rattle.kb_world.specs.Spoken.{statement_of}
+use Rattle.kb_world.specs.Spoken.{statement_of, device_of}
 use Rattle.kb_world.specs.Doing.{MayDo, Does}
 use Rattle.kb_top.specs.Replies.{names_in, plain, text_of_replies, text_of_each, AllOwned, AllAgree, IsAnswered}
-use Rattle.kb_top.specs.Outcomes.{Ran, Ended, Cut}
+use Rattle.kb_top.specs.Outcomes.{Ran, RanWhole, Ended, Cut}
+use Rattle.kb_top.specs.Summaries.{names_given, names_told}
+use Rattle.kb_top.proofs.Told.{one_told}
 use Rattle.kb_top.proofs.Fits.{declared_after_all, found_after_all, declared_push, found_push, fit_at, names_next, After, after, may_do, may_follow}
 
 -- ---- bytes that were written
@@ -37,6 +40,12 @@ Appends-both None b c bs cs p q = tt
 Appends-both (Some x) None c bs cs p q = absurd p
 Appends-both (Some x) (Some y) None bs cs p q = absurd q
 Appends-both (Some x) (Some y) (Some z) bs cs p q = q ∙ ap (λ l. l ++ cs) p ∙ append_assoc x bs cs
+
+-- ---- an answer that is an error
+
+pub on_err : {A E : Type 0} (r : Result A E) (P : Type 0) → P → OnErr r P
+on_err (Ok x) P p = tt
+on_err (Err e) P p = p
 
 -- ---- one statement more
 
@@ -106,13 +115,17 @@ arms_first : (all : List Statement) (n : ℕ) → All ArmsNone (plain all) → A
 arms_first all n none = subst (λ l. All ArmsNone l) (sym (map_take statement_of n all)) (All-take ArmsNone n (plain all) none)
 
 -- these statements ran, under these names
-pub record IsRunning {W : Type 0} (stands : Names → W → State → Type 0) (names : Names) (world : W) (before now : Option (List ℕ)) (faults_before faults_now : ℕ) (statements : List Statement) : Type 0 where
+pub record HasRun {W : Type 0} (stands : Names → W → State → Type 0) (names : Names) (world : W) (statements : List Statement) : Type 0 where
   pub each : List (List Reply)
   pub state : State
   pub run : Run new_state (plain statements) each state
   pub stands_for : stands names world state
   pub after : After (declared_after_all 0 statements) (found_after_all false statements) state
-  pub bytes : Appends before now (text_of_each names statements each)
+
+-- and put their lines
+pub record IsRunning {W : Type 0} (stands : Names → W → State → Type 0) (names : Names) (world : W) (before now : Option (List ℕ)) (faults_before faults_now : ℕ) (statements : List Statement) : Type 0 where
+  pub ran : HasRun stands names world statements
+  pub bytes : Appends before now (text_of_each names statements ran.each)
   pub later : faults_before ≤ faults_now
 
 -- Whatever state the world stood for, in which the statement might be done, it goes on to one that it stands for now.
@@ -120,29 +133,86 @@ abbrev pub Moves : {W : Type 0} → (Names → W → State → Type 0) → W →
 Moves {W} stands old new statement P = (names : Names) (s : State) → stands names old s → MayDo names s statement → (t : State) × P names s t × stands names new t
 
 module _ {W : Type 0} (stands : Names → W → State → Type 0) where
-  pub none_ran : (world : W) (names : Names) (held : Option (List ℕ)) (faults : ℕ) → ((names : Names) → stands names world new_state) → IsRunning stands names world held held faults faults []
-  none_ran world names held faults is =
-      record { each = []; state = new_state; run = refl; stands_for = is names; after = (refl, λ none. refl); bytes = Appends-none held; later = omega arith }
+  pub new_run : (world : W) (names : Names) → ((names : Names) → stands names world new_state) → HasRun stands names world []
+  new_run world names is = record { each = []; state = new_state; run = refl; stands_for = is names; after = (refl, λ none. refl) }
 
-  pub all_ran : (world : W) (before now : Option (List ℕ)) (first second : ℕ) (statements ran : List Statement) → ran ≡ statements → AllFit statements → IsRunning stands (names_in statements) world before now first second ran → Ran stands world before now statements
-  all_ran world before now first second statements ran same fit running =
-      let r = subst (λ l. IsRunning stands (names_in statements) world before now first second l) same running in
-      let all = answers statements r.each r.state fit (runs_begin (plain statements) r.each r.state r.run).whole in
+  -- and no names were given
+  pub new_untold : (world : W) (names : Names) → ((names : Names) → stands names world new_state) → (ran : HasRun stands names world []) × (0 ≡ names_given ran.each)
+  unfolding new_run
+  new_untold world names is = (new_run world names is, refl)
+
+  pub none_ran : (world : W) (names : Names) (held : Option (List ℕ)) (faults : ℕ) → ((names : Names) → stands names world new_state) → IsRunning stands names world held held faults faults []
+  none_ran world names held faults is = record { ran = new_run world names is; bytes = Appends-none held; later = omega arith }
+
+  -- they all ran, and these bytes were written
+  pub all_ran : (world : W) (before now : Option (List ℕ)) (statements some : List Statement) → some ≡ statements → AllFit statements → (ran : HasRun stands (names_in statements) world some)
+      → (written : State → List (List Reply) → List ℕ) → Appends before now (written ran.state ran.each) → Ran stands world before now statements written
+  all_ran world before now statements some same fit ran written bytes =
+      let run : Run new_state (plain statements) ran.each ran.state = subst (λ l. Run new_state (plain l) ran.each ran.state) same ran.run in
+      let all = answers statements ran.each ran.state fit (runs_begin (plain statements) ran.each ran.state run).whole in
       record {
-        each = r.each;
-        state = r.state;
-        run = r.run;
-        stands_for = r.stands_for;
-        owned = owned_by r.state (runs_good (plain statements) r.each r.state r.run);
-        agree = agree_by r.state (runs_good (plain statements) r.each r.state r.run);
-        unfused = λ none. unfused (plain statements) r.each r.state none r.run;
+        each = ran.each;
+        state = ran.state;
+        run = run;
+        stands_for = ran.stands_for;
+        owned = owned_by ran.state (runs_good (plain statements) ran.each ran.state run);
+        agree = agree_by ran.state (runs_good (plain statements) ran.each ran.state run);
+        unfused = λ none. unfused (plain statements) ran.each ran.state none run;
         answered = all;
-        same = λ plain. (all.are.only r.each (record { state = r.state; run = r.run; plain = plain })).0;
-        bytes = r.bytes;
+        same = λ plain. (all.are.only ran.each (record { state = ran.state; run = run; plain = plain })).0;
+        bytes = bytes;
       }
 
-  module _ (mid world : W) (before held now : Option (List ℕ)) (first second third : ℕ) (statements : List Statement) (fit : AllFit statements) (n : ℕ) (statement : Statement) (next : slice_get statements n ≡ Some statement)
-      (running : IsRunning stands (names_in statements) mid before held first second (take n statements)) where
+  -- and put nothing
+  pub all_untold : (world : W) (statements some : List Statement) → some ≡ statements → AllFit statements → (ran : HasRun stands (names_in statements) world some)
+      → (n : ℕ) → n ≡ names_given ran.each → (all : Ran stands world None None statements (λ state each. [])) × (n ≡ names_given all.each)
+  unfolding all_ran
+  all_untold world statements some same fit ran n e = (all_ran world None None statements some same fit ran (λ state each. []) tt, e)
+
+  -- and put their lines
+  pub all_put : (world : W) (before now : Option (List ℕ)) (first second : ℕ) (statements some : List Statement) → some ≡ statements → AllFit statements → IsRunning stands (names_in statements) world before now first second some → RanWhole stands world before now statements
+  all_put world before now first second statements some same fit running =
+      all_ran world before now statements some same fit running.ran (λ state each. text_of_each (names_in statements) statements each)
+      (subst (λ l. Appends before now (text_of_each (names_in statements) l running.ran.each)) same running.bytes)
+
+  -- the world stands for the last state still, and these bytes were written
+  pub ran_still : (old new : W) (before was first now : Option (List ℕ)) (statements : List Statement) (nothing written : State → List (List Reply) → List ℕ) → (ran : Ran stands old before was statements nothing)
+      → stands (names_in statements) new ran.state → Appends first now (written ran.state ran.each) → Ran stands new first now statements written
+  ran_still old new before was first now statements nothing written ran is bytes = record {
+    each = ran.each;
+    state = ran.state;
+    run = ran.run;
+    stands_for = is;
+    owned = ran.owned;
+    agree = ran.agree;
+    unfused = ran.unfused;
+    answered = ran.answered;
+    same = ran.same;
+    bytes = bytes;
+  }
+
+  -- the first ones ran, and these bytes were written
+  pub ended_still : (world : W) (before was first now : Option (List ℕ)) (statements : List Statement) (nothing written : List Statement → List (List Reply) → List ℕ) → (ended : Ended stands world before was statements nothing)
+      → Appends first now (written (take ended.count statements) ended.each) → Ended stands world first now statements written
+  ended_still world before was first now statements nothing written ended bytes = record {
+    count = ended.count;
+    statement = ended.statement;
+    next = ended.next;
+    each = ended.each;
+    middle = ended.middle;
+    run = ended.run;
+    state = ended.state;
+    ended = ended.ended;
+    stands_for = ended.stands_for;
+    owned = ended.owned;
+    agree = ended.agree;
+    unfused = ended.unfused;
+    answered = ended.answered;
+    bytes = bytes;
+  }
+
+  module _ (mid world : W) (statements : List Statement) (fit : AllFit statements) (n : ℕ) (statement : Statement) (next : slice_get statements n ≡ Some statement)
+      (ran : HasRun stands (names_in statements) mid (take n statements)) where
     abbrev pub names : Names
     names = names_in statements
 
@@ -150,80 +220,101 @@ module _ {W : Type 0} (stands : Names → W → State → Type 0) where
     fits = fit_at 0 false statements n statement fit next
 
     -- it may be done
-    pub may_be_done : MayDo names running.state statement
-    may_be_done = may_do names running.state _ _ statement running.after fits (names_next statements n statement next)
+    pub may_be_done : MayDo names ran.state statement
+    may_be_done = may_do names ran.state _ _ statement ran.after fits (names_next statements n statement next)
 
     -- it was done
     module _ (lines : List Line) (goes : Moves stands mid world statement (λ names s t. Does names s statement lines t)) where
-      moved : (t : State) × Does names running.state statement lines t × stands names world t
-      moved = goes names running.state running.stands_for may_be_done
+      moved : (t : State) × Does names ran.state statement lines t × stands names world t
+      moved = goes names ran.state ran.stands_for may_be_done
 
-      run : Run new_state (plain (take (n + 1) statements)) (running.each ++ moved.1.replies ∷ []) moved.0
-      run = run_more statements n statement running.each running.state moved.1.replies moved.0 next running.run moved.1.steps
+      run : Run new_state (plain (take (n + 1) statements)) (ran.each ++ moved.1.replies ∷ []) moved.0
+      run = run_more statements n statement ran.each ran.state moved.1.replies moved.0 next ran.run moved.1.steps
 
       text : text_of_all lines ≡ text_of_replies names statement moved.1.replies
       text = ap text_of_all moved.1.lines_are
 
-      pub one_more : Appends held now (text_of_all lines) → second ≤ third → IsRunning stands (names_in statements) world before now first third (take (n + 1) statements)
-      one_more put later =
+      pub one_ran : HasRun stands (names_in statements) world (take (n + 1) statements)
+      one_ran =
           let all = take_more statements n statement next in
           record {
-            each = running.each ++ moved.1.replies ∷ [];
+            each = ran.each ++ moved.1.replies ∷ [];
             state = moved.0;
             run = run;
             stands_for = moved.2;
             after = subst (λ l. After (declared_after_all 0 l) (found_after_all false l) moved.0) (sym all)
                 (subst (λ b. After (declared_after_all 0 (take n statements ++ statement ∷ [])) b moved.0) (sym (found_push false (take n statements) statement))
                 (subst (λ k. After k (found_after (found_after_all false (take n statements)) statement) moved.0) (sym (declared_push 0 (take n statements) statement))
-                (after running.state moved.0 _ _ moved.1.replies running.after statement fits moved.1.steps)));
-            bytes = subst (λ l. Appends before now (text_of_each names l (running.each ++ moved.1.replies ∷ []))) (sym all)
-                (subst (λ l. Appends before now l) (sym (text_more names new_state (take n statements) running.each running.state statement moved.1.replies running.run))
-                (Appends-both before held now _ _ running.bytes (subst (λ l. Appends held now l) text put)));
-            later = omega (arith, running.later, later);
+                (after ran.state moved.0 _ _ moved.1.replies ran.after statement fits moved.1.steps)));
           }
 
+      -- and so many names were given then
+      pub one_untold : (before : ℕ) → before ≡ names_given ran.each → (now : ℕ) → now ≡ fold names_told before lines → (more : HasRun stands (names_in statements) world (take (n + 1) statements)) × (now ≡ names_given more.each)
+      unfolding one_ran
+      one_untold before e now told = (one_ran, told ∙ ap (fold names_told before) moved.1.lines_are ∙ one_told names (device_of statement) before ran.each moved.1.replies e)
+
+      -- its lines were put behind those before
+      put_more : (before held now : Option (List ℕ)) → Appends before held (text_of_each names (take n statements) ran.each) → Appends held now (text_of_all lines) → Appends before now (text_of_each names (take (n + 1) statements) (ran.each ++ moved.1.replies ∷ []))
+      put_more before held now was put =
+          subst (λ l. Appends before now (text_of_each names l (ran.each ++ moved.1.replies ∷ []))) (sym (take_more statements n statement next))
+          (subst (λ l. Appends before now l) (sym (text_more names new_state (take n statements) ran.each ran.state statement moved.1.replies ran.run))
+          (Appends-both before held now _ _ was (subst (λ l. Appends held now l) text put)))
+
       -- a beginning of its lines was put
-      pub cut : (put : ℕ) → Appends held now (take put (text_of_all lines)) → Cut stands world before now statements
-      cut put bytes = record {
+      pub cut : (before held now : Option (List ℕ)) → Appends before held (text_of_each names (take n statements) ran.each) → (put : ℕ) → Appends held now (take put (text_of_all lines)) → Cut stands world before now statements
+      cut before held now was put bytes = record {
         count = n;
         statement = statement;
         next = next;
-        each = running.each;
-        middle = running.state;
-        run = running.run;
+        each = ran.each;
+        middle = ran.state;
+        run = ran.run;
         replies = moved.1.replies;
         state = moved.0;
         step = moved.1.steps;
         stands_for = moved.2;
         owned = owned_by moved.0 (runs_good _ _ moved.0 run);
         agree = agree_by moved.0 (runs_good _ _ moved.0 run);
-        unfused = λ none. unfused (plain (take (n + 1) statements)) (running.each ++ moved.1.replies ∷ []) moved.0 (arms_first statements (n + 1) none) run;
-        answered = answers statements (running.each ++ moved.1.replies ∷ []) moved.0 fit (part_begun statements n statement running.each running.state moved.1.replies moved.0 next running.run moved.1.steps.0);
+        unfused = λ none. unfused (plain (take (n + 1) statements)) (ran.each ++ moved.1.replies ∷ []) moved.0 (arms_first statements (n + 1) none) run;
+        answered = answers statements (ran.each ++ moved.1.replies ∷ []) moved.0 fit (part_begun statements n statement ran.each ran.state moved.1.replies moved.0 next ran.run moved.1.steps.0);
         put = put;
-        bytes = Appends-both before held now _ _ running.bytes (subst (λ l. Appends held now (take put l)) text bytes);
+        bytes = Appends-both before held now _ _ was (subst (λ l. Appends held now (take put l)) text bytes);
       }
 
     -- want of memory ended it
-    pub ended : Moves stands mid world statement (λ names s t. Ends s (statement_of statement) t) → Ended stands world before held statements
-    ended goes =
-        let moved = goes names running.state running.stands_for may_be_done in
+    pub ended : (before held : Option (List ℕ)) (written : List Statement → List (List Reply) → List ℕ) → Appends before held (written (take n statements) ran.each)
+        → Moves stands mid world statement (λ names s t. Ends s (statement_of statement) t) → Ended stands world before held statements written
+    ended before held written was goes =
+        let moved = goes names ran.state ran.stands_for may_be_done in
         record {
           count = n;
           statement = statement;
           next = next;
-          each = running.each;
-          middle = running.state;
-          run = running.run;
+          each = ran.each;
+          middle = ran.state;
+          run = ran.run;
           state = moved.0;
           ended = moved.1;
           stands_for = moved.2;
-          owned = owned_by moved.0 (ends_keep running.state (statement_of statement) moved.0 moved.1 (runs_good _ _ running.state running.run));
-          agree = agree_by moved.0 (ends_keep running.state (statement_of statement) moved.0 moved.1 (runs_good _ _ running.state running.run));
-          unfused = λ none. unfused (plain (take n statements)) running.each running.state (arms_first statements n none) running.run;
-          answered = answers statements (running.each ++ moved.1.0 ∷ []) moved.1.1 fit (part_begun statements n statement running.each running.state moved.1.0 moved.1.1 next running.run moved.1.2);
-          bytes = running.bytes;
+          owned = owned_by moved.0 (ends_keep ran.state (statement_of statement) moved.0 moved.1 (runs_good _ _ ran.state ran.run));
+          agree = agree_by moved.0 (ends_keep ran.state (statement_of statement) moved.0 moved.1 (runs_good _ _ ran.state ran.run));
+          unfused = λ none. unfused (plain (take n statements)) ran.each ran.state (arms_first statements n none) ran.run;
+          answered = answers statements (ran.each ++ moved.1.0 ∷ []) moved.1.1 fit (part_begun statements n statement ran.each ran.state moved.1.0 moved.1.1 next ran.run moved.1.2);
+          bytes = was;
         }
 
     -- or the text of its lines
-    pub ended_after : (lines : List Line) → Moves stands mid world statement (λ names s t. Does names s statement lines t) → Ended stands world before held statements
-    ended_after lines goes = ended (λ names s h may. let moved = goes names s h may in (moved.0, (moved.1.replies, moved.0, moved.1.steps.0, inl refl), moved.2))
+    pub ended_after : (before held : Option (List ℕ)) (written : List Statement → List (List Reply) → List ℕ) → Appends before held (written (take n statements) ran.each)
+        → (lines : List Line) → Moves stands mid world statement (λ names s t. Does names s statement lines t) → Ended stands world before held statements written
+    ended_after before held written was lines goes = ended before held written was (λ names s h may. let moved = goes names s h may in (moved.0, (moved.1.replies, moved.0, moved.1.steps.0, inl refl), moved.2))
+
+  -- it was done, and its lines were put
+  pub one_more : (mid world : W) (before held now : Option (List ℕ)) (first second third : ℕ) (statements : List Statement) (fit : AllFit statements) (n : ℕ) (statement : Statement) (next : slice_get statements n ≡ Some statement)
+      → IsRunning stands (names_in statements) mid before held first second (take n statements) → (lines : List Line) → Moves stands mid world statement (λ names s t. Does names s statement lines t)
+      → Appends held now (text_of_all lines) → second ≤ third → IsRunning stands (names_in statements) world before now first third (take (n + 1) statements)
+  unfolding one_ran
+  one_more mid world before held now first second third statements fit n statement next running lines goes put later = record {
+    ran = one_ran mid world statements fit n statement next running.ran lines goes;
+    bytes = put_more mid world statements fit n statement next running.ran lines goes before held now running.bytes put;
+    later = omega (arith, running.later, later);
+  }

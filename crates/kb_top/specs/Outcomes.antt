@@ -1,5 +1,5 @@
 -- What a top call leaves, at each status.
-use Rattle.std.specs.Prelude.{◌≡◌, ◌⊎◌, ℕ, false, List, [], ◌∷◌, ◌++◌, take, Option, Some, slice_get, codes, map, All, string_bytes}
+use Rattle.std.specs.Prelude.{◌≡◌, ◌≤◌, ◌⊎◌, ℕ, false, List, [], ◌∷◌, ◌++◌, take, Option, Some, slice_get, codes, decimal, map, All, string_bytes}
 use Rattle.std.specs.declared.string.String.{String}
 use Rattle.std.specs.Io.KnownBytes.{Appends}
 use Rattle.kb_edge.specs.Causes.{Rose}
@@ -11,6 +11,8 @@ use Rattle.kb_world.specs.Machine.{State, new_state, Run, Steps, Ends}
 use Rattle.kb_world.specs.RunLaws.{ArmsNone, TellsNoStop, IsPlain}
 use Rattle.kb_folder.specs.Chains.{Names}
 use Rattle.kb_world.specs.Spoken.{statement_of}
+use Rattle.kb_gen.specs.Generated.{generated}
+use Rattle.kb_top.specs.Summaries.{summary}
 use Rattle.kb_top.specs.Inputs.{IsInput, HasFault, fault_text, TellsScript, TellsNoScript}
 use Rattle.kb_top.specs.Replies.{names_in, plain, text_of_replies, text_of_each, AllOwned, AllAgree, IsAnswered}
 use Rattle.kb_top.specs.declared.status.Status.{Status}
@@ -28,9 +30,9 @@ IsTold before now text Memory = Appends before now []
 IsTold before now text _ = ⊥
 
 module _ {W : Type 0} (stands : Names → W → State → Type 0) (world : W) (before now : Option (List ℕ)) where
-  -- These statements ran, the world stands for the run's last state, and the bytes written are the lines of its replies,
-  -- under the names that the statements declare.
-  pub record Ran (statements : List Statement) : Type 0 where
+  -- These statements ran, the world stands for the run's last state, and the bytes written are these of that state and of
+  -- the replies.
+  pub record Ran (statements : List Statement) (written : State → List (List Reply) → List ℕ) : Type 0 where
     pub each : List (List Reply)
     pub state : State
     pub run : Run new_state (plain statements) each state
@@ -40,10 +42,11 @@ module _ {W : Type 0} (stands : Names → W → State → Type 0) (world : W) (b
     pub unfused : All ArmsNone (plain statements) → All (All TellsNoStop) each
     pub answered : IsAnswered (plain statements) each
     pub same : All (All IsPlain) each → each ≡ answered.all
-    pub bytes : Appends before now (text_of_each (names_in statements) statements each)
+    pub bytes : Appends before now (written state each)
 
-  -- the first statements ran, and put their lines; want of memory ended the next one, or its text
-  pub record Ended (statements : List Statement) : Type 0 where
+  -- The first statements ran, want of memory ended the next one, or its text, and the bytes written are these of the first
+  -- statements and of their replies.
+  pub record Ended (statements : List Statement) (written : List Statement → List (List Reply) → List ℕ) : Type 0 where
     pub count : ℕ
     pub statement : Statement
     pub next : slice_get statements count ≡ Some statement
@@ -57,7 +60,15 @@ module _ {W : Type 0} (stands : Names → W → State → Type 0) (world : W) (b
     pub agree : AllAgree state
     pub unfused : All ArmsNone (plain statements) → All (All TellsNoStop) each
     pub answered : IsAnswered (plain statements) (each ++ ended.0 ∷ [])
-    pub bytes : Appends before now (text_of_each (names_in statements) (take count statements) each)
+    pub bytes : Appends before now (written (take count statements) each)
+
+  -- all statements of a script ran, and put their lines, under the names that the statements declare
+  abbrev pub RanWhole : List Statement → Type 0
+  RanWhole statements = Ran statements (λ state each. text_of_each (names_in statements) statements each)
+
+  -- the first ones ran, and put their lines
+  abbrev pub RanSome : List Statement → Type 0
+  RanSome statements = Ended statements (text_of_each (names_in statements))
 
   -- the first statements ran, and put their lines; the next one ran, and put a beginning of its lines
   pub record Cut (statements : List Statement) : Type 0 where
@@ -85,8 +96,8 @@ module _ {W : Type 0} (stands : Names → W → State → Type 0) (world : W) (b
 
   -- how a run over statements ends
   abbrev pub RunsTo : List Statement → Status → Type 0
-  RunsTo statements Done = Ran statements
-  RunsTo statements Memory = Ended statements
+  RunsTo statements Done = RanWhole statements
+  RunsTo statements Memory = RanSome statements
   RunsTo statements WriteFault = Cut statements
   RunsTo statements _ = ⊥
 
@@ -100,12 +111,19 @@ module _ {W : Type 0} (stands : Names → W → State → Type 0) (world : W) (b
 
   -- how a call that reads a script and runs it ends
   abbrev pub Headline : Option (List ℕ) → Status → Type 0
-  Headline source Done = OfScript source Ran
-  Headline source Memory = NothingRan [] ⊎ OfScript source Ended
+  Headline source Done = OfScript source RanWhole
+  Headline source Memory = NothingRan [] ⊎ OfScript source RanSome
   Headline source WriteFault = OfNoScript source (λ text. (put : ℕ) × NothingRan (take put text)) ⊎ OfScript source Cut
   Headline source Script = OfNoScript source NothingRan
   Headline source ReadFault = NothingRan []
   Headline source Usage = ⊥
+
+  -- how a call ends that runs the statements generated for a number, and puts their summary alone
+  abbrev pub GenEnd : ℕ → Status → Type 0
+  GenEnd number Done = Ran (generated number) (summary number)
+  GenEnd number WriteFault = (put : ℕ) × Ran (generated number) (λ state each. take put (summary number state each))
+  GenEnd number Memory = NothingRan [] ⊎ (Ended (generated number) (λ first each. []) ⊎ Ran (generated number) (λ state each. []))
+  GenEnd number _ = ⊥
 
   -- how a call ends whose words ask for nothing
   abbrev pub UsageEnd : Status → Type 0
@@ -118,6 +136,16 @@ pub record IsComplete (source : Option (List ℕ)) (read_before read_now put_bef
   pub runs : ¬ Rose read_before read_now → ¬ Rose put_before put_now → TellsScript source → (status ≡ Done) ⊎ (status ≡ Memory)
   pub tells : ¬ Rose read_before read_now → ¬ Rose put_before put_now → TellsNoScript source → (status ≡ Script) ⊎ (status ≡ Memory)
 
+-- where no count rises, the statements are run to their end, unless memory runs out
+abbrev pub IsWhole : ℕ → ℕ → Status → Type 0
+IsWhole put_before put_now status = ¬ Rose put_before put_now → (status ≡ Done) ⊎ (status ≡ Memory)
+
 -- the words are the one word run
 abbrev pub IsRun : {A : Type 0} → List (String A) → Type 0
 IsRun words = map string_bytes words ≡ codes "run" ∷ []
+
+-- the words are gen and this number, which is one from 1 to 1,000
+pub record IsGen {A : Type 0} (words : List (String A)) (number : ℕ) : Type 0 where
+  pub from : 1 ≤ number
+  pub to : number ≤ 1000
+  pub words_are : map string_bytes words ≡ codes "gen" ∷ decimal number ∷ []

@@ -1,6 +1,7 @@
 //! The calls that the program makes: a script is read, run and answered.
 #![tactic(auto)]
 
+mod generated;
 mod input;
 mod run;
 mod status;
@@ -9,6 +10,7 @@ mod tests;
 mod texts;
 mod words;
 
+pub use generated::run_gen;
 pub use run::run_script;
 pub use status::Status;
 pub use words::run_words;

@@ -5,8 +5,8 @@ use Rattle.std.proofs.lemmas.List.{take_all}
 use Rattle.std.specs.Io.KnownBytes.{Appends}
 use Rattle.kb_lines.specs.LineTexts.{text_of_all}
 use Rattle.kb_world.specs.Standing.{WorldStands}
-use Rattle.kb_top.specs.Replies.{names_in}
-use Rattle.kb_top.proofs.Runs.{none_ran, all_ran, one_more, ended, ended_after, cut, may_be_done}
+use Rattle.kb_top.specs.Replies.{names_in, text_of_each}
+use Rattle.kb_top.proofs.Runs.{none_ran, all_put, one_more, ended, ended_after, cut, may_be_done}
 use Rattle.kb_top.proofs.run.run_all.Goals as goal
 
 pub loop-statement-init : goal.loop-statement-init
@@ -18,12 +18,8 @@ step-requires g c =
     let all = c.args.statements.now in
     let it = c.statement-item.result in
     let next : slice_get all i ≡ Some it = slice_get_read all (length all) i it refl c.loop-statement-test.true c.statement-item.is in
-    let old = g.K.Sink.held c.args.sink.now in
-    let held = g.K.Sink.held c.loop-statement.sink in
-    let first = g.K.Sink.faults c.args.sink.now in
-    let second = g.K.Sink.faults c.loop-statement.sink in
     let running = c.loop-statement.invariant in
-    (names_in all, running.state, running.stands_for, may_be_done WorldStands c.loop-statement.world c.loop-statement.world old held held first second second all c.requires.fit i it next running)
+    (names_in all, running.ran.state, running.ran.stands_for, may_be_done WorldStands c.loop-statement.world c.loop-statement.world all c.requires.fit i it next running.ran)
 
 pub returns-in-Err-clause-runs : goal.returns-in-Err-clause-runs
 returns-in-Err-clause-runs g c =
@@ -33,9 +29,8 @@ returns-in-Err-clause-runs g c =
     let next : slice_get all i ≡ Some it = slice_get_read all (length all) i it refl c.loop-statement-test.true c.statement-item.is in
     let old = g.K.Sink.held c.args.sink.now in
     let held = g.K.Sink.held c.loop-statement.sink in
-    let first = g.K.Sink.faults c.args.sink.now in
-    let second = g.K.Sink.faults c.loop-statement.sink in
-    ended WorldStands c.loop-statement.world c.step.new.self old held held first second second all c.requires.fit i it next c.loop-statement.invariant c.in-Err.ensures.memory
+    let running = c.loop-statement.invariant in
+    ended WorldStands c.loop-statement.world c.step.new.self all c.requires.fit i it next running.ran old held (text_of_each (names_in all)) running.bytes c.in-Err.ensures.memory
 
 pub returns-in-Err-render-clause-runs : goal.returns-in-Err-render-clause-runs
 returns-in-Err-render-clause-runs g c =
@@ -45,10 +40,8 @@ returns-in-Err-render-clause-runs g c =
     let next : slice_get all i ≡ Some it = slice_get_read all (length all) i it refl c.loop-statement-test.true c.statement-item.is in
     let old = g.K.Sink.held c.args.sink.now in
     let held = g.K.Sink.held c.loop-statement.sink in
-    let first = g.K.Sink.faults c.args.sink.now in
-    let second = g.K.Sink.faults c.loop-statement.sink in
-    ended_after WorldStands c.loop-statement.world c.step.new.self old held held first second second all c.requires.fit i it next c.loop-statement.invariant
-    c.in-Ok.lines.items c.in-Ok.ensures.step
+    let running = c.loop-statement.invariant in
+    ended_after WorldStands c.loop-statement.world c.step.new.self all c.requires.fit i it next running.ran old held (text_of_each (names_in all)) running.bytes c.in-Ok.lines.items c.in-Ok.ensures.step
 
 pub returns-in-Err-put-clause-runs : goal.returns-in-Err-put-clause-runs
 returns-in-Err-put-clause-runs g c =
@@ -58,12 +51,10 @@ returns-in-Err-put-clause-runs g c =
     let next : slice_get all i ≡ Some it = slice_get_read all (length all) i it refl c.loop-statement-test.true c.statement-item.is in
     let old = g.K.Sink.held c.args.sink.now in
     let held = g.K.Sink.held c.loop-statement.sink in
-    let first = g.K.Sink.faults c.args.sink.now in
-    let second = g.K.Sink.faults c.loop-statement.sink in
     let now = g.K.Sink.held c.put.new.self in
     let text : c.deref-in-loop-statement.result.now ≡ text_of_all c.in-Ok.lines.items = c.deref-in-loop-statement.ensures.value ∙ c.in-Ok-render.ensures ∙ ap text_of_all c.deref.ensures.value in
-    cut WorldStands c.loop-statement.world c.step.new.self old held now first second second all c.requires.fit i it next c.loop-statement.invariant
-    c.in-Ok.lines.items c.in-Ok.ensures.step c.in-Err-put.ensures.bytes.0 (subst (λ t. Appends held now (take c.in-Err-put.ensures.bytes.0 t)) text c.in-Err-put.ensures.bytes.1)
+    let running = c.loop-statement.invariant in
+    cut WorldStands c.loop-statement.world c.step.new.self all c.requires.fit i it next running.ran c.in-Ok.lines.items c.in-Ok.ensures.step old held now running.bytes c.in-Err-put.ensures.bytes.0 (subst (λ t. Appends held now (take c.in-Err-put.ensures.bytes.0 t)) text c.in-Err-put.ensures.bytes.1)
 
 pub loop-statement-preserved : goal.loop-statement-preserved
 loop-statement-preserved g c =
@@ -85,5 +76,5 @@ returns-clause-runs g c =
     let i = c.loop-statement.statement-index in
     let all = c.args.statements.now in
     let ended : length all ≤ i = omega (arith, c.loop-statement-test.false) in
-    all_ran WorldStands c.loop-statement.world (g.K.Sink.held c.args.sink.now) (g.K.Sink.held c.loop-statement.sink) (g.K.Sink.faults c.args.sink.now) (g.K.Sink.faults c.loop-statement.sink)
+    all_put WorldStands c.loop-statement.world (g.K.Sink.held c.args.sink.now) (g.K.Sink.held c.loop-statement.sink) (g.K.Sink.faults c.args.sink.now) (g.K.Sink.faults c.loop-statement.sink)
     all (take i all) (take_all i all ended) c.requires.fit c.loop-statement.invariant

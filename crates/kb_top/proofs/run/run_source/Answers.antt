@@ -1,4 +1,5 @@
-use Rattle.kb_top.proofs.Ends.{none_new, ended_new, tells_headline, told_not_read}
+use Rattle.kb_world.specs.Standing.{WorldStands}
+use Rattle.kb_top.proofs.Ends.{none_new, ended_new, tells_headline, ran_headline, told_not_read}
 use Rattle.kb_top.proofs.run.run_source.Goals as goal
 
 pub returns-in-Err-Memory-clause-headline : goal.returns-in-Err-Memory-clause-headline
@@ -14,3 +15,8 @@ returns-in-Err-clause-read g c = told_not_read (g.K.Sink.held c.args.sink.now) (
 
 pub returns-in-Err-Failed-clause-headline : goal.returns-in-Err-Failed-clause-headline
 returns-in-Err-Failed-clause-headline g c = none_new c.args.world.now (g.K.Sink.held c.args.sink.now) c.requires
+
+pub returns-clause-headline : goal.returns-clause-headline
+returns-clause-headline g c =
+    ran_headline WorldStands c.run_all.new.world (g.K.Sink.held c.args.sink.now) (g.K.Sink.held c.run_all.new.sink) (g.S.Source.left c.args.source.now) c.in-Ok.bytes.items c.deref.result.now c.in-Ok-parse.statements.items c.deref-in-Ok-parse.result.now c.run_all.result
+    c.in-Ok.ensures.bytes c.deref.ensures.value c.deref-in-Ok-parse.ensures.value c.in-Ok-parse.ensures.value c.run_all.ensures.runs
