@@ -1,10 +1,7 @@
 //! Whole runs over ends in memory.
 mod branches;
-<<<<<<< HEAD
-mod looks;
-=======
 mod generated;
->>>>>>> 68d9584a633d5b98175dd75de17cde1e4bee449f
+mod looks;
 mod scripts;
 
 use crate::{Status, run_script, run_words};
