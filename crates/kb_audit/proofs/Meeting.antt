@@ -8,7 +8,8 @@ use Rattle.kb_name.specs.declared.ids.NodeId.{NodeId}
 use Rattle.kb_name.specs.Nodes.{same_node}
 use Rattle.kb_ops.specs.declared.rows.Row.{Row}
 use Rattle.kb_ops.specs.Rows.{Look}
-use Rattle.kb_ops.specs.Trees.{Tree, look, IsWellFormed}
+use Rattle.kb_ops.specs.declared.rows.Op.{Op}
+use Rattle.kb_ops.specs.Trees.{Tree, look, fold_ops, IsWellFormed}
 use Rattle.kb_ops.specs.Lists.{tree_of, rises}
 use Rattle.kb_ops.proofs.Lists.{row_of, look_of, len_of}
 use Rattle.kb_ops.proofs.Nodes.{node_is}
@@ -16,6 +17,7 @@ use Rattle.kb_rules.specs.declared.stamp.Stamp.{Stamp}
 use Rattle.kb_rules.specs.Merge.{copy_id, merge, splits}
 use Rattle.kb_tree.specs.Held.{AreKept}
 use Rattle.kb_rules.specs.Meet.{Meet, HasNoCopies}
+use Rattle.kb_resolver.specs.Few.{FewAreSplit}
 use Rattle.kb_snap.specs.Chains.{merged_tree}
 use Rattle.kb_snap.specs.Lawful.{AreFew}
 use Rattle.kb_audit.specs.Merging.{KindsAt, CommonAt, NoCopyAt, MeetAt, AllMeet, AreRowsOf}
@@ -147,3 +149,9 @@ merge_is b m u stamp bs ms us t ib im iu e = e ∙ merged_is (tree_of bs) (tree_
 
 pub splits_in_rows : (b m u : Tree) (bs ms us : List Row) → AreRowsOf bs b → AreRowsOf ms m → AreRowsOf us u → length (splits b m u) ≤ 65535 → length (splits (tree_of bs) (tree_of ms) (tree_of us)) ≤ 65535
 splits_in_rows b m u bs ms us ib im iu few = subst (λ (ids : List NodeId). length ids ≤ 65535) (λ i. splits (sym ib.tree i) (sym im.tree i) (sym iu.tree i)) few
+
+-- a branch of at most as many operations as a merge has splits few files
+pub few_split : FewAreSplit → (ops : List Op) (b m o u : Tree) → o ≡ b → u ≡ fold_ops ops o → length ops ≤ 4096 → length (splits b m u) ≤ 65535
+few_split law ops b m o u same folded few =
+    let at : length (splits b m u) ≤ 2 * length ops = subst (λ (z : Tree). length (splits b m z) ≤ 2 * length ops) (sym (folded ∙ ap (fold_ops ops) same)) (law ops b m) in
+    omega (arith, at, few)
