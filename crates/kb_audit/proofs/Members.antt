@@ -129,9 +129,9 @@ rekey_told registered c w a who some h = (some, action_told registered c a who h
 pub rekey_from : (registered : ℕ) (c : Back) (w : ℕ) (a : Action) (who : ℕ) → ((d : ℕ) → IsSome (role_in c d) → (1 ≤ d) × (d ≤ 32)) → IsAllowed c w → MayDo registered c w (Rekeyed a who) → IsRekey registered c a who
 rekey_from registered [] w a who few allowed may = absurd (may.0 refl)
 rekey_from registered (y ∷ c) w a who few allowed may = fits_behind registered (y ∷ c) (record { writer = w; name = []; moment = 0; deed = Rekeyed a who }) few (record {
-    allowed = allowed;
-    own = tt;
-    counts = tt;
-    fits = (not_none (y ∷ c) may.0, may.1);
-    suits = may.2;
-  })
+  allowed = allowed;
+  own = tt;
+  counts = tt;
+  fits = (not_none (y ∷ c) may.0, may.1);
+  suits = may.2;
+})

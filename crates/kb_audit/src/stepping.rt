@@ -163,10 +163,14 @@ pub(crate) fn advance<S: Sealer, H: BlockHash>(
         RevisionKind::Step => step_tree(alloc, table, private.ops.as_slice()),
         RevisionKind::Steps => step_tree(alloc, table, private.ops.as_slice()),
         RevisionKind::Merge => {
-            merge_revision::<S, H>(alloc, table, roots, revision, private, names, 1, ring, store)
+            merge_revision::<S, H>(
+                alloc, table, roots, revision, private, names, 1, ring, store,
+            )
         }
         RevisionKind::Join => {
-            merge_revision::<S, H>(alloc, table, roots, revision, private, names, 2, ring, store)
+            merge_revision::<S, H>(
+                alloc, table, roots, revision, private, names, 2, ring, store,
+            )
         }
     }
 }

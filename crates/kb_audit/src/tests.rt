@@ -267,13 +267,7 @@ fn root_mtime(later: bool) -> Moment {
     }
 }
 
-fn step(
-    alloc: Global,
-    kept: &mut Kept,
-    draft: &Draft,
-    op: Op,
-    table: &Table,
-) -> Result<(), Memory>
+fn step(alloc: Global, kept: &mut Kept, draft: &Draft, op: Op, table: &Table) -> Result<(), Memory>
     requires number { 2 ≤ draft.now.number }
     requires writer { 1 ≤ draft.now.writer }
     requires generation { (1 ≤ draft.now.generation) × (draft.now.generation ≤ 64) }
@@ -300,13 +294,7 @@ fn step(
 }
 
 // Device 2 merges its operation, made on the tree after this revision, as the fourth revision.
-fn merge(
-    alloc: Global,
-    kept: &mut Kept,
-    op: Op,
-    base: u32,
-    table: &Table,
-) -> Result<(), Memory>
+fn merge(alloc: Global, kept: &mut Kept, op: Op, base: u32, table: &Table) -> Result<(), Memory>
     requires op { IsProper op }
     requires base { 1 ≤ base }
 {
@@ -486,21 +474,42 @@ fn told_of(alloc: Global, draft: &Draft) -> Result<u32, AuditFault>
 fn a_third_revision(rt: HostRuntime) -> Result<(), Memory> {
     let alloc = rt.alloc();
     assert!(&rt; told_of(alloc, &third()) == Ok(3));
-    let late = Draft { number: 4, ..third() };
+    let late = Draft {
+        number: 4,
+        ..third()
+    };
     assert!(&rt; told_of(alloc, &late) == at(3, AuditWhy::Number));
-    let apart = Draft { apart: true, ..third() };
+    let apart = Draft {
+        apart: true,
+        ..third()
+    };
     assert!(&rt; told_of(alloc, &apart) == at(3, AuditWhy::Previous));
-    let stranger = Draft { writer: 3, ..third() };
+    let stranger = Draft {
+        writer: 3,
+        ..third()
+    };
     assert!(&rt; told_of(alloc, &stranger) == at(3, AuditWhy::Writer));
-    let forged = Draft { signer: 2, ..third() };
+    let forged = Draft {
+        signer: 2,
+        ..third()
+    };
     assert!(&rt; told_of(alloc, &forged) == at(3, AuditWhy::Signature));
     let gap = Draft { seq: 2, ..third() };
     assert!(&rt; told_of(alloc, &gap) == at(3, AuditWhy::Seq));
-    let newer = Draft { generation: 2, ..third() };
+    let newer = Draft {
+        generation: 2,
+        ..third()
+    };
     assert!(&rt; told_of(alloc, &newer) == at(3, AuditWhy::Fit));
-    let closed = Draft { sealed_by: 2, ..third() };
+    let closed = Draft {
+        sealed_by: 2,
+        ..third()
+    };
     assert!(&rt; told_of(alloc, &closed) == at(3, AuditWhy::Private));
-    let touched = Draft { later: true, ..third() };
+    let touched = Draft {
+        later: true,
+        ..third()
+    };
     assert!(&rt; told_of(alloc, &touched) == at(3, AuditWhy::Blocks));
     Ok(())
 }
