@@ -48,7 +48,7 @@ fn keep(alloc: Global, kept: &mut Kept, table: &Table) -> Result<Ptr, Memory> {
     let none = Pointers::new(alloc);
     let built = build::<HmacSealer, Sha256Hash>(alloc, table, &none, &secrets().folder(1), 1)?;
     let root = built.root;
-    match kept.store.put_all(built.blocks.into_vec().as_slice()) {
+    match kept.store.put_all(built.blocks.as_slice()) {
         Ok(()) => Ok(root),
         Err(_) => Err(Memory),
     }
@@ -161,13 +161,15 @@ fn merge_part(alloc: Global, root: Ptr, op: Op, base: u32) -> Result<Bytes, Memo
 }
 
 // The entry of a device for the first key.
-fn entry(alloc: Global, device: u16) -> Result<Entry, Memory>
-    ensures { IfOk result (λ e. (e.device ≡ device) × (e.generation ≡ 1)) }
-{
+fn entry(alloc: Global, device: u16) -> Result<Entry, Memory> {
     let mut bundle = Bundle::new(alloc);
     match bundle.rotate::<HmacSealer>(alloc, &[device], &secrets()) {
-        Ok(_) => Ok(bundle.entries()[0]),
-        Err(_) => Err(Memory),
+        Ok(_) => {}
+        Err(_) => return Err(Memory),
+    }
+    match bundle.entries().first() {
+        Some(entry) => Ok(*entry),
+        None => Err(Memory),
     }
 }
 
@@ -261,10 +263,21 @@ fn third() -> Draft
 
 // The root's time in a private part, which is a second late or right.
 fn root_mtime(later: bool) -> Moment {
-    match Moment::new(if later { 1 } else { 0 }) {
+    if !later {
+        return Moment::START;
+    }
+    match Moment::new(1) {
         Some(moment) => moment,
         None => Moment::START,
     }
+}
+
+// The hash of the last revision, or another.
+fn previous(kept: &Kept, apart: bool) -> Hash {
+    if apart {
+        return [9; 32];
+    }
+    head(kept)
 }
 
 fn step(alloc: Global, kept: &mut Kept, draft: &Draft, op: Op, table: &Table) -> Result<(), Memory>
@@ -278,7 +291,7 @@ fn step(alloc: Global, kept: &mut Kept, draft: &Draft, op: Op, table: &Table) ->
     let revision = Revision {
         kind: RevisionKind::Step,
         number: draft.number,
-        previous: if draft.apart { [9; 32] } else { head(kept) },
+        previous: previous(kept, draft.apart),
         writer: draft.writer,
         moment: Moment::START,
         generation: draft.generation,
@@ -474,42 +487,29 @@ fn told_of(alloc: Global, draft: &Draft) -> Result<u32, AuditFault>
 fn a_third_revision(rt: HostRuntime) -> Result<(), Memory> {
     let alloc = rt.alloc();
     assert!(&rt; told_of(alloc, &third()) == Ok(3));
-    let late = Draft {
-        number: 4,
-        ..third()
-    };
+    let mut late = third();
+    late.number = 4;
     assert!(&rt; told_of(alloc, &late) == at(3, AuditWhy::Number));
-    let apart = Draft {
-        apart: true,
-        ..third()
-    };
+    let mut apart = third();
+    apart.apart = true;
     assert!(&rt; told_of(alloc, &apart) == at(3, AuditWhy::Previous));
-    let stranger = Draft {
-        writer: 3,
-        ..third()
-    };
+    let mut stranger = third();
+    stranger.writer = 3;
     assert!(&rt; told_of(alloc, &stranger) == at(3, AuditWhy::Writer));
-    let forged = Draft {
-        signer: 2,
-        ..third()
-    };
+    let mut forged = third();
+    forged.signer = 2;
     assert!(&rt; told_of(alloc, &forged) == at(3, AuditWhy::Signature));
-    let gap = Draft { seq: 2, ..third() };
+    let mut gap = third();
+    gap.seq = 2;
     assert!(&rt; told_of(alloc, &gap) == at(3, AuditWhy::Seq));
-    let newer = Draft {
-        generation: 2,
-        ..third()
-    };
+    let mut newer = third();
+    newer.generation = 2;
     assert!(&rt; told_of(alloc, &newer) == at(3, AuditWhy::Fit));
-    let closed = Draft {
-        sealed_by: 2,
-        ..third()
-    };
+    let mut closed = third();
+    closed.sealed_by = 2;
     assert!(&rt; told_of(alloc, &closed) == at(3, AuditWhy::Private));
-    let touched = Draft {
-        later: true,
-        ..third()
-    };
+    let mut touched = third();
+    touched.later = true;
     assert!(&rt; told_of(alloc, &touched) == at(3, AuditWhy::Blocks));
     Ok(())
 }
