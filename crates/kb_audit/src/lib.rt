@@ -16,8 +16,6 @@ mod opening;
 mod reading;
 mod stepping;
 mod taking;
-#[cfg(test)]
-mod tests;
 
 pub use auditing::audit;
 pub use faults::{AuditFault, AuditWhy};
