@@ -1,0 +1,15 @@
+pub mod Each
+pub mod Changes
+pub mod Members
+pub mod Equal
+pub mod Parts
+pub mod Readings
+pub mod Meeting
+pub mod Once
+pub mod Named
+pub mod Halved
+pub mod Whole
+pub mod Going
+pub mod Taken
+pub mod Trees
+pub mod Deciding
