@@ -1,7 +1,7 @@
 -- What a power cut leaves, place by place and page by page.
-use Rattle.std.proofs.Common.{◌≡◌, ◌≢◌, ◌≤◌, ◌<◌, ◌+◌, ◌-◌, ◌*◌, ◌/◌, ◌%◌, ℕ, Bool, true, false, List, [], ◌∷◌, None, Option, cond, eqb, ltb, length, get_or, refl, sym, ap, ◌∙◌, subst, arith, inl, inr}
+use Rattle.std.proofs.Common.{◌≡◌, ◌≢◌, ◌<◌, ◌+◌, ◌-◌, ◌*◌, ◌/◌, ◌%◌, ℕ, Bool, true, false, List, [], ◌∷◌, None, Option, cond, ltb, length, get_or, refl, sym, ap, ◌∙◌, arith, inl, inr}
 use Rattle.std.specs.Prelude.{◌&&◌}
-use Rattle.std.proofs.lemmas.Bool.{cases_lt, false≢true}
+use Rattle.std.proofs.lemmas.Bool.{cases_lt}
 use Rattle.std.proofs.lemmas.Bool.Decides.{nat_tests, eqb_tells}
 use Rattle.kb_edge.specs.Disk.{within}
 use Rattle.kb_edge.specs.declared.disk.Pick.{Pick}
@@ -22,10 +22,10 @@ left_same pick flags kept f h place same = ap (λ n. picked pick (dirty_at flags
 
 -- one more place of a page
 pub cut_more : (pick : Pick) (flags kept f g h : ℕ → Option (List ℕ)) (page k left : ℕ)
-  → ((i : ℕ) → now_at f i ≡ cond (within (512 * page) k i) (left_at pick flags kept h i) (now_at h i))
-  → left ≡ left_at pick flags kept f (512 * page + k)
-  → ((i : ℕ) → now_at g i ≡ cond (within (512 * page + k) 1 i) (get_or (left ∷ []) (i - (512 * page + k)) 0) (now_at f i))
-  → (i : ℕ) → now_at g i ≡ cond (within (512 * page) (k + 1) i) (left_at pick flags kept h i) (now_at h i)
+    → ((i : ℕ) → now_at f i ≡ cond (within (512 * page) k i) (left_at pick flags kept h i) (now_at h i))
+    → left ≡ left_at pick flags kept f (512 * page + k)
+    → ((i : ℕ) → now_at g i ≡ cond (within (512 * page + k) 1 i) (get_or (left ∷ []) (i - (512 * page + k)) 0) (now_at f i))
+    → (i : ℕ) → now_at g i ≡ cond (within (512 * page) (k + 1) i) (left_at pick flags kept h i) (now_at h i)
 cut_more pick flags kept f g h page k left was is put i =
     put i ∙ elim (cases_lt i (512 * page + k)) [
       | inl before ↦ rw (not_before (512 * page + k) 1 i before) (was i ∙ elim (cases_lt i (512 * page)) [
@@ -35,9 +35,9 @@ cut_more pick flags kept f g h page k left was is put i =
       | inr behind ↦ elim (cases_lt (512 * page + k) i) [
         | inl past ↦ rw (not_behind (512 * page + k) 1 i (omega (arith, past)), not_behind (512 * page) (k + 1) i (omega (arith, past))) (was i ∙ rw (not_behind (512 * page) k i (omega (arith, past))) refl)
         | inr not ↦
-          let at : 512 * page + k ≡ i = omega (arith, not, behind) in
-          let old : now_at f i ≡ now_at h i = was i ∙ rw (not_behind (512 * page) k i behind) refl in
-          rw (in_part (512 * page + k) 1 i behind (omega (arith, at)), in_part (512 * page) (k + 1) i (omega (arith, at)) (omega (arith, at)))
+            let at : 512 * page + k ≡ i = omega (arith, not, behind) in
+            let old : now_at f i ≡ now_at h i = was i ∙ rw (not_behind (512 * page) k i behind) refl in
+            rw (in_part (512 * page + k) 1 i behind (omega (arith, at)), in_part (512 * page) (k + 1) i (omega (arith, at)) (omega (arith, at)))
             (ap (λ j. get_or (left ∷ []) j 0) (zero i at) ∙ (is ∙ (ap (left_at pick flags kept f) at ∙ left_same pick flags kept f h i old)))
       ]
     ]
@@ -54,22 +54,22 @@ cond_both b d x y e = ap (λ t. cond t x y) e
 
 -- one more page
 pub cut_page_more : (pick : Pick) (flags kept f g h : ℕ → Option (List ℕ)) (seats order : List ℕ) (index page : ℕ)
-  → index < length order → get_or order index 0 ≡ page → get_or seats page 0 ≡ index
-  → ((i : ℕ) → now_at f i ≡ cond (is_among seats order index (i / 512)) (left_at pick flags kept h i) (now_at h i))
-  → ((i : ℕ) → now_at g i ≡ cond (within (512 * page) 512 i) (left_at pick flags kept f i) (now_at f i))
-  → (i : ℕ) → now_at g i ≡ cond (is_among seats order (index + 1) (i / 512)) (left_at pick flags kept h i) (now_at h i)
+    → index < length order → get_or order index 0 ≡ page → get_or seats page 0 ≡ index
+    → ((i : ℕ) → now_at f i ≡ cond (is_among seats order index (i / 512)) (left_at pick flags kept h i) (now_at h i))
+    → ((i : ℕ) → now_at g i ≡ cond (within (512 * page) 512 i) (left_at pick flags kept f i) (now_at f i))
+    → (i : ℕ) → now_at g i ≡ cond (is_among seats order (index + 1) (i / 512)) (left_at pick flags kept h i) (now_at h i)
 cut_page_more pick flags kept f g h seats order index page lt at seat was put i =
     elim (eqb_tells (i / 512) page) [
       | inl same ↦
-        let is : i / 512 ≡ page = same.1 in
-        let among : is_among seats order index (i / 512) ≡ false = rw is (rw seat (grind (arith, nat_tests))) in
-        let among' : is_among seats order (index + 1) (i / 512) ≡ true = rw is (rw (seat, at) (grind (arith, nat_tests))) in
-        let old : now_at f i ≡ now_at h i = was i ∙ rw among refl in
-        put i ∙ rw (in_part (512 * page) 512 i (omega (arith, is)) (omega (arith, is)), among') (left_same pick flags kept f h i old)
+          let is : i / 512 ≡ page = same.1 in
+          let among : is_among seats order index (i / 512) ≡ false = rw is (rw seat (grind (arith, nat_tests))) in
+          let among' : is_among seats order (index + 1) (i / 512) ≡ true = rw is (rw (seat, at) (grind (arith, nat_tests))) in
+          let old : now_at f i ≡ now_at h i = was i ∙ rw among refl in
+          put i ∙ rw (in_part (512 * page) 512 i (omega (arith, is)) (omega (arith, is)), among') (left_same pick flags kept f h i old)
       | inr apart ↦
-        let out : within (512 * page) 512 i ≡ false = grind (arith, nat_tests, outside i apart.1) in
-        let same : is_among seats order index (i / 512) ≡ is_among seats order (index + 1) (i / 512) = same_among (i / 512) apart.1 in
-        put i ∙ rw out (was i ∙ cond_both _ _ _ _ same)
+          let out : within (512 * page) 512 i ≡ false = grind (arith, nat_tests, outside i apart.1) in
+          let same : is_among seats order index (i / 512) ≡ is_among seats order (index + 1) (i / 512) = same_among (i / 512) apart.1 in
+          put i ∙ rw out (was i ∙ cond_both _ _ _ _ same)
     ]
   where
     outside : (i : ℕ) → i / 512 ≢ page → (within (512 * page) 512 i ≡ false)
@@ -84,18 +84,18 @@ cut_page_more pick flags kept f g h seats order index page lt at seat was put i 
       | inr behind ↦ elim (cases_lt index (get_or seats q 0)) [
         | inl past ↦ grind (arith, nat_tests)
         | inr not ↦
-          let is : get_or seats q 0 ≡ index = omega (arith, not, behind) in
-          let none : is_there seats order q ≡ false = rw (is, at) (grind (arith, nat_tests)) in
-          rw none refl
+            let is : get_or seats q 0 ≡ index = omega (arith, not, behind) in
+            let none : is_there seats order q ≡ false = rw (is, at) (grind (arith, nat_tests)) in
+            rw none refl
       ]
     ]
 
 -- all pages
 pub cut_all : (pick : Pick) (flags kept f h : ℕ → Option (List ℕ)) (seats order : List ℕ) (index : ℕ)
-  → index ≡ length order
-  → ((q : ℕ) → is_there seats order q ≡ false → flags q ≡ None)
-  → ((i : ℕ) → now_at f i ≡ cond (is_among seats order index (i / 512)) (left_at pick flags kept h i) (now_at h i))
-  → (i : ℕ) → now_at f i ≡ left_at pick flags kept h i
+    → index ≡ length order
+    → ((q : ℕ) → is_there seats order q ≡ false → flags q ≡ None)
+    → ((i : ℕ) → now_at f i ≡ cond (is_among seats order index (i / 512)) (left_at pick flags kept h i) (now_at h i))
+    → (i : ℕ) → now_at f i ≡ left_at pick flags kept h i
 cut_all pick flags kept f h seats order index end none all i = all i ∙ by (is_there seats order (i / 512)) refl
   where
     clean : (p : Pick) (s n : ℕ) → n ≡ picked p false s n i

@@ -1,7 +1,6 @@
 -- Values for each place of a disk, and bytes that are written or picked part by part.
-use Rattle.std.proofs.Common.{◌≡◌, ◌≤◌, ◌<◌, ◌+◌, ◌-◌, ℕ, Bool, true, false, List, ◌++◌, cond, ltb, length, replicate, get_or, take, drop, map, refl, sym, ap, subst, ◌∙◌, arith, inl, inr}
+use Rattle.std.proofs.Common.{◌≡◌, ◌≤◌, ◌<◌, ◌+◌, ◌-◌, ℕ, Bool, true, false, List, cond, length, replicate, get_or, refl, sym, ap, subst, ◌∙◌, arith, inl, inr}
 use Rattle.std.specs.Prelude.{◌||◌, slice_range}
-use Rattle.std.specs.List.{range_with_len}
 use Rattle.std.proofs.lemmas.Bool.{cases_lt}
 use Rattle.std.proofs.lemmas.List.{ext_get_or, get_or_past, get_or-replicate, length-replicate}
 use Rattle.std.proofs.lemmas.List.FromFn.{length-map-range_with_len, get_or-map-range_with_len}
@@ -33,13 +32,13 @@ row_put f g n' n at done part same all fits so_far =
     ap (row f) same ∙
     let room : at + length part ≤ length (row g n) = omega (arith, fits, row_size g n) in
     row_is f n (overlay (row g n) at part) 0 (overlay_size (row g n) part at room ∙ row_size g n) (λ i lt.
-      put i ∙ elim (cases_lt i at) [
-        | inl before ↦ rw (not_before at (length part) i before) (sym (overlay_before (row g n) part at room i before ∙ row_at g n i 0 lt))
-        | inr behind ↦ elim (cases_lt i (at + length part)) [
-          | inl here ↦ rw (in_part at (length part) i behind here) (sym (overlay_here (row g n) part at room i (i - at) (omega (arith, behind)) (omega (arith, behind, here))))
-          | inr past ↦ rw (not_behind at (length part) i past) (sym (overlay_behind (row g n) part at room i past ∙ row_at g n i 0 lt))
-        ]
-      ])
+    put i ∙ elim (cases_lt i at) [
+      | inl before ↦ rw (not_before at (length part) i before) (sym (overlay_before (row g n) part at room i before ∙ row_at g n i 0 lt))
+      | inr behind ↦ elim (cases_lt i (at + length part)) [
+        | inl here ↦ rw (in_part at (length part) i behind here) (sym (overlay_here (row g n) part at room i (i - at) (omega (arith, behind)) (omega (arith, behind, here))))
+        | inr past ↦ rw (not_behind at (length part) i past) (sym (overlay_behind (row g n) part at room i past ∙ row_at g n i 0 lt))
+      ]
+    ])
 
 pub dirty_row : (f : ℕ → Bool) (n place : ℕ) → place < n → is_dirty (row f n) place ≡ f place
 dirty_row f n place lt = row_at f n place false lt
@@ -54,11 +53,11 @@ pub dirty_more : (f g : ℕ → Bool) (n' n at done size place : ℕ) → n' ≡
 dirty_more f g n' n at done size place same all fits so_far =
     let more : (i : ℕ) → f i ≡ (g i || within at size i) = λ i. subst (λ d. f i ≡ (g i || within at d i)) all (so_far i) in
     ap (λ k. is_dirty (row f k) place) same ∙ elim (cases_lt place n) [
-  | inl lt ↦ dirty_row f n place lt ∙ (more place ∙ ap (λ b. b || within at size place) (sym (dirty_row g n place lt)))
-  | inr le ↦
-    get_or_past (row f n) place false (omega (arith, le, row_size f n))
-    ∙ sym (ap (λ b. b || within at size place) (get_or_past (row g n) place false (omega (arith, le, row_size g n))) ∙ rw (not_behind at size place (omega (arith, le, fits))) refl)
-]
+      | inl lt ↦ dirty_row f n place lt ∙ (more place ∙ ap (λ b. b || within at size place) (sym (dirty_row g n place lt)))
+      | inr le ↦
+          get_or_past (row f n) place false (omega (arith, le, row_size f n))
+          ∙ sym (ap (λ b. b || within at size place) (get_or_past (row g n) place false (omega (arith, le, row_size g n))) ∙ rw (not_behind at size place (omega (arith, le, fits))) refl)
+    ]
 
 pub zeros_row : {X : Type 0} (f : ℕ → X) (n : ℕ) (x : X) → ((i : ℕ) → f i ≡ x) → row f n ≡ replicate n x
 zeros_row f n x all = row_is f n (replicate n x) x (length-replicate n x) (λ i lt. all i ∙ sym (get_or-replicate n i x x lt))
@@ -69,13 +68,13 @@ read_row f n at m into is room read =
     subst (λ k. into ≡ slice_range (row f n) at (at + k)) is (
     let size : length (slice_range (row f n) at (at + length into)) ≡ length into = omega (arith, slice_size (row f n) at (at + length into) (omega (arith, fits, row_size f n))) in
     ext_get_or 0 into (slice_range (row f n) at (at + length into)) (sym size) (λ k lt.
-      read k lt ∙ sym (slice_at (row f n) at (at + length into) k (at + k) (omega (arith, lt)) refl ∙ row_at f n (at + k) 0 (omega (arith, lt, fits)))))
+    read k lt ∙ sym (slice_at (row f n) at (at + length into) k (at + k) (omega (arith, lt)) refl ∙ row_at f n (at + k) 0 (omega (arith, lt, fits)))))
 
 -- a part more is written, read or marked
 pub put_more : (f g h : ℕ → ℕ) (at done n : ℕ) (bytes : List ℕ) → done + n ≤ length bytes
-  → ((i : ℕ) → f i ≡ cond (within at done i) (get_or bytes (i - at) 0) (h i))
-  → ((i : ℕ) → g i ≡ cond (within (at + done) (length (slice_range bytes done (done + n))) i) (get_or (slice_range bytes done (done + n)) (i - (at + done)) 0) (f i))
-  → (i : ℕ) → g i ≡ cond (within at (done + n) i) (get_or bytes (i - at) 0) (h i)
+    → ((i : ℕ) → f i ≡ cond (within at done i) (get_or bytes (i - at) 0) (h i))
+    → ((i : ℕ) → g i ≡ cond (within (at + done) (length (slice_range bytes done (done + n))) i) (get_or (slice_range bytes done (done + n)) (i - (at + done)) 0) (f i))
+    → (i : ℕ) → g i ≡ cond (within at (done + n) i) (get_or bytes (i - at) 0) (h i)
 put_more f g h at done n bytes fits was put i =
     let size : length (slice_range bytes done (done + n)) ≡ n = omega (arith, slice_size bytes done (done + n) fits) in
     put i ∙ rw size (elim (cases_lt i (at + done)) [

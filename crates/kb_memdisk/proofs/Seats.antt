@@ -1,9 +1,9 @@
 -- Pages after one was added, and after bytes were written over a part of one.
-use Rattle.std.proofs.Common.{◌≡◌, ◌≢◌, ◌≤◌, ◌<◌, ◌+◌, ◌-◌, ◌*◌, ◌^◌, ℕ, suc, Bool, true, false, List, [], ◌∷◌, ◌++◌, Some, None, Option, cond, eqb, ltb, length, take, drop, get_or, set, refl, sym, ap, ◌∙◌, subst, arith, inl, inr}
-use Rattle.std.specs.Prelude.{slice_range, IsSome, is_some, unwrap_or, ◌&&◌, ◌||◌}
+use Rattle.std.proofs.Common.{◌≡◌, ◌≢◌, ◌≤◌, ◌<◌, ◌+◌, ◌-◌, ◌*◌, ℕ, suc, Bool, true, false, List, [], ◌∷◌, ◌++◌, Some, None, cond, eqb, length, get_or, set, refl, sym, ap, ◌∙◌, subst, arith, inl, inr}
+use Rattle.std.specs.Prelude.{slice_range, IsSome, is_some, unwrap_or, ◌||◌}
 use Rattle.std.specs.Option.{option_map}
-use Rattle.std.specs.List.{IsDistinct, list_any}
-use Rattle.std.proofs.lemmas.Bool.{cases_lt, false≢true, eqb-true}
+use Rattle.std.specs.List.{list_any}
+use Rattle.std.proofs.lemmas.Bool.{cases_lt, false≢true}
 use Rattle.std.proofs.lemmas.Bool.Decides.{nat_tests, eqb_tells}
 use Rattle.std.proofs.lemmas.List.{ext_get_or, length-append, length-set, length-replicate, length_push, get_or_default, get_or_append_left, get_or_push, get_or-append_right, get_or-set_same, get_or-set_other}
 use Rattle.std.proofs.lemmas.Map.Keys.{IsDistinct-from_apart}
@@ -35,13 +35,13 @@ module _ (seats order : List ℕ) (inside : (k : ℕ) → k < length order → g
       apart : (i j d : ℕ) → i < j → j < length order → eqb (get_or order i d) (get_or order j d) ≡ false
       apart i j d before lt = elim (eqb_tells (get_or order i d) (get_or order j d)) [
         | inl same ↦
-          let first = get_or_default order i d 0 (omega (arith, before, lt)) in
-          let other = get_or_default order j d 0 lt in
-          let one = seated i (omega (arith, before, lt)) in
-          let two = seated j lt in
-          let equal : get_or order i 0 ≡ get_or order j 0 = sym first ∙ (same.1 ∙ other) in
-          let is : i ≡ j = sym one ∙ (ap (λ p. get_or seats p 0) equal ∙ two) in
-          absurd (omega (arith, before, is))
+            let first = get_or_default order i d 0 (omega (arith, before, lt)) in
+            let other = get_or_default order j d 0 lt in
+            let one = seated i (omega (arith, before, lt)) in
+            let two = seated j lt in
+            let equal : get_or order i 0 ≡ get_or order j 0 = sym first ∙ (same.1 ∙ other) in
+            let is : i ≡ j = sym one ∙ (ap (λ p. get_or seats p 0) equal ∙ two) in
+            absurd (omega (arith, before, is))
         | inr other ↦ other.0
       ]
 
@@ -78,17 +78,17 @@ module _ (seats order : List ℕ) (n order_room bytes_room : ℕ) (are : ArePage
       let size = slice_size bytes (512 * s) (512 * s + 512) within in
       let size' = slice_size (bytes ++ text) (512 * s) (512 * s + 512) (omega (arith, within, length-append bytes text)) in
       ext_get_or 0 (slice_range (bytes ++ text) (512 * s) (512 * s + 512)) (slice_range bytes (512 * s) (512 * s + 512)) (size' ∙ sym size) (λ i lt.
-        let j : 512 * s + i < 512 * s + 512 = omega (arith, lt, size') in
-        slice_at (bytes ++ text) (512 * s) (512 * s + 512) i (512 * s + i) j refl
-        ∙ (get_or_append_left bytes text 0 (512 * s + i) (omega (arith, j, within)) ∙ sym (slice_at bytes (512 * s) (512 * s + 512) i (512 * s + i) j refl)))
+      let j : 512 * s + i < 512 * s + 512 = omega (arith, lt, size') in
+      slice_at (bytes ++ text) (512 * s) (512 * s + 512) i (512 * s + i) j refl
+      ∙ (get_or_append_left bytes text 0 (512 * s + i) (omega (arith, j, within)) ∙ sym (slice_at bytes (512 * s) (512 * s + 512) i (512 * s + i) j refl)))
 
   last : (bytes text : List ℕ) (s : ℕ) → 512 * s ≡ length bytes → length text ≡ 512 → slice_range (bytes ++ text) (512 * s) (512 * s + 512) ≡ text
   last bytes text s at size =
       let size' = slice_size (bytes ++ text) (512 * s) (512 * s + 512) (omega (arith, at, size, length-append bytes text)) in
       ext_get_or 0 (slice_range (bytes ++ text) (512 * s) (512 * s + 512)) text (omega (arith, size', size)) (λ i lt.
-        let j : 512 * s + i < 512 * s + 512 = omega (arith, lt, size') in
-        slice_at (bytes ++ text) (512 * s) (512 * s + 512) i (512 * s + i) j refl
-        ∙ (get_or-append_right bytes text (512 * s) (512 * s + i) 0 (sym at) (omega arith) ∙ ap (λ k. get_or text k 0) (omega arith)))
+      let j : 512 * s + i < 512 * s + 512 = omega (arith, lt, size') in
+      slice_at (bytes ++ text) (512 * s) (512 * s + 512) i (512 * s + i) j refl
+      ∙ (get_or-append_right bytes text (512 * s) (512 * s + i) 0 (sym at) (omega arith) ∙ ap (λ k. get_or text k 0) (omega arith)))
 
   plain_added : ArePages (set seats page (length order)) (order ++ page ∷ []) (n + 512) order_room bytes_room
   plain_added = record {
@@ -115,25 +115,25 @@ module _ (seats order : List ℕ) (n order_room bytes_room : ℕ) (are : ArePage
   there_added : (other : ℕ) → other ≢ page → (seat : ℕ) → get_or seats other 0 ≡ seat → is_there (set seats page (length order)) (order ++ page ∷ []) other ≡ is_there seats order other
   there_added other apart seat is =
       rw (get_or-set_other seats page other (length order) 0 apart, is)
-        (elim (cases_lt seat (length order)) [
-          | inl before ↦ rw (get_or_append_left order (page ∷ []) 0 seat before) (grind (arith, nat_tests, length_push order page))
-          | inr behind ↦ elim (cases_lt (length order) seat) [
-            | inl past ↦ grind (arith, nat_tests, length_push order page)
-            | inr at ↦ rw (get_or_push order page 0 seat (omega (arith, at, behind))) (grind (arith, nat_tests))
-          ]
-        ])
+      (elim (cases_lt seat (length order)) [
+        | inl before ↦ rw (get_or_append_left order (page ∷ []) 0 seat before) (grind (arith, nat_tests, length_push order page))
+        | inr behind ↦ elim (cases_lt (length order) seat) [
+          | inl past ↦ grind (arith, nat_tests, length_push order page)
+          | inr at ↦ rw (get_or_push order page 0 seat (omega (arith, at, behind))) (grind (arith, nat_tests))
+        ]
+      ])
 
   plain : (bytes text : List ℕ) → n ≡ length bytes → length text ≡ 512 → (other : ℕ) → page_in (set seats page (length order)) (order ++ page ∷ []) (bytes ++ text) other ≡ cond (eqb other page) (Some text) (page_in seats order bytes other)
   unfolding page_in
   plain bytes text count size other =
       elim (eqb_tells other page) [
         | inl same ↦
-          let seat : get_or (set seats page (length order)) page 0 ≡ length order = get_or-set_same seats page (length order) 0 lt in
-          let at : get_or (order ++ page ∷ []) (length order) 0 ≡ page = get_or_push order page 0 (length order) refl in
-          let there : is_there (set seats page (length order)) (order ++ page ∷ []) page ≡ true = rw (seat, at) (grind (arith, nat_tests, length_push order page)) in
-          subst (λ p. page_in (set seats page (length order)) (order ++ page ∷ []) (bytes ++ text) p ≡ cond (eqb other page) (Some text) (page_in seats order bytes p)) (sym same.1) (rw (same.0, there, seat) (ap Some (last bytes text (length order) (omega (arith, count, are.size)) size)))
+            let seat : get_or (set seats page (length order)) page 0 ≡ length order = get_or-set_same seats page (length order) 0 lt in
+            let at : get_or (order ++ page ∷ []) (length order) 0 ≡ page = get_or_push order page 0 (length order) refl in
+            let there : is_there (set seats page (length order)) (order ++ page ∷ []) page ≡ true = rw (seat, at) (grind (arith, nat_tests, length_push order page)) in
+            subst (λ p. page_in (set seats page (length order)) (order ++ page ∷ []) (bytes ++ text) p ≡ cond (eqb other page) (Some text) (page_in seats order bytes p)) (sym same.1) (rw (same.0, there, seat) (ap Some (last bytes text (length order) (omega (arith, count, are.size)) size)))
         | inr apart ↦
-          rw (apart.0, there_added other apart.1 (get_or seats other 0) refl, get_or-set_other seats page other (length order) 0 apart.1) (by other (is_there seats order other) refl)
+            rw (apart.0, there_added other apart.1 (get_or seats other 0) refl, get_or-set_other seats page other (length order) 0 apart.1) (by other (is_there seats order other) refl)
       ]
     where
       by : (other : ℕ) (b : Bool) → is_there seats order other ≡ b → cond b (Some (slice_range (bytes ++ text) (512 * get_or seats other 0) (512 * get_or seats other 0 + 512))) None ≡ cond b (Some (slice_range bytes (512 * get_or seats other 0) (512 * get_or seats other 0 + 512))) None
@@ -171,15 +171,15 @@ inside_page bytes part a from within fits =
     let new = slice_size (overlay bytes (a + from) part) a (a + 512) (omega (arith, within, overlay_size bytes part (a + from) f)) in
     let size = overlay_size (slice_range bytes a (a + 512)) part from f' in
     ext_get_or 0 (slice_range (overlay bytes (a + from) part) a (a + 512)) (overlay (slice_range bytes a (a + 512)) from part) (omega (arith, old, new, size)) (λ i lt.
-      let j : a + i < a + 512 = omega (arith, lt, new) in
-      slice_at (overlay bytes (a + from) part) a (a + 512) i (a + i) j refl
-      ∙ elim (cases_lt i from) [
-        | inl before ↦ overlay_before bytes part (a + from) f (a + i) (omega (arith, before)) ∙ (sym (slice_at bytes a (a + 512) i (a + i) j refl) ∙ sym (overlay_before (slice_range bytes a (a + 512)) part from f' i before))
-        | inr behind ↦ elim (cases_lt i (from + length part)) [
-          | inl here ↦ overlay_here bytes part (a + from) f (a + i) (i - from) (omega (arith, behind)) (omega (arith, behind, here)) ∙ sym (overlay_here (slice_range bytes a (a + 512)) part from f' i (i - from) (omega (arith, behind)) (omega (arith, behind, here)))
-          | inr past ↦ overlay_behind bytes part (a + from) f (a + i) (omega (arith, past)) ∙ (sym (slice_at bytes a (a + 512) i (a + i) j refl) ∙ sym (overlay_behind (slice_range bytes a (a + 512)) part from f' i past))
-        ]
-      ])
+    let j : a + i < a + 512 = omega (arith, lt, new) in
+    slice_at (overlay bytes (a + from) part) a (a + 512) i (a + i) j refl
+    ∙ elim (cases_lt i from) [
+      | inl before ↦ overlay_before bytes part (a + from) f (a + i) (omega (arith, before)) ∙ (sym (slice_at bytes a (a + 512) i (a + i) j refl) ∙ sym (overlay_before (slice_range bytes a (a + 512)) part from f' i before))
+      | inr behind ↦ elim (cases_lt i (from + length part)) [
+        | inl here ↦ overlay_here bytes part (a + from) f (a + i) (i - from) (omega (arith, behind)) (omega (arith, behind, here)) ∙ sym (overlay_here (slice_range bytes a (a + 512)) part from f' i (i - from) (omega (arith, behind)) (omega (arith, behind, here)))
+        | inr past ↦ overlay_behind bytes part (a + from) f (a + i) (omega (arith, past)) ∙ (sym (slice_at bytes a (a + 512) i (a + i) j refl) ∙ sym (overlay_behind (slice_range bytes a (a + 512)) part from f' i past))
+      ]
+    ])
 
 other_page : (bytes part : List ℕ) (s t from : ℕ) → 512 * s + 512 ≤ length bytes → 512 * t + 512 ≤ length bytes → s ≢ t → from + length part ≤ 512 → slice_range (overlay bytes (512 * s + from) part) (512 * t) (512 * t + 512) ≡ slice_range bytes (512 * t) (512 * t + 512)
 other_page bytes part s t from within within' apart fits =
@@ -187,12 +187,12 @@ other_page bytes part s t from within within' apart fits =
     let old = slice_size bytes (512 * t) (512 * t + 512) within' in
     let new = slice_size (overlay bytes (512 * s + from) part) (512 * t) (512 * t + 512) (omega (arith, within', overlay_size bytes part (512 * s + from) f)) in
     ext_get_or 0 (slice_range (overlay bytes (512 * s + from) part) (512 * t) (512 * t + 512)) (slice_range bytes (512 * t) (512 * t + 512)) (new ∙ sym old) (λ i lt.
-      let j : 512 * t + i < 512 * t + 512 = omega (arith, lt, new) in
-      slice_at (overlay bytes (512 * s + from) part) (512 * t) (512 * t + 512) i (512 * t + i) j refl
-      ∙ (elim (cases_lt t s) [
-        | inl before ↦ overlay_before bytes part (512 * s + from) f (512 * t + i) (omega (arith, before, j))
-        | inr behind ↦ let past : s < t = omega (arith, behind, apart) in overlay_behind bytes part (512 * s + from) f (512 * t + i) (omega (arith, past, fits))
-      ] ∙ sym (slice_at bytes (512 * t) (512 * t + 512) i (512 * t + i) j refl)))
+    let j : 512 * t + i < 512 * t + 512 = omega (arith, lt, new) in
+    slice_at (overlay bytes (512 * s + from) part) (512 * t) (512 * t + 512) i (512 * t + i) j refl
+    ∙ (elim (cases_lt t s) [
+      | inl before ↦ overlay_before bytes part (512 * s + from) f (512 * t + i) (omega (arith, before, j))
+      | inr behind ↦ let past : s < t = omega (arith, behind, apart) in overlay_behind bytes part (512 * s + from) f (512 * t + i) (omega (arith, past, fits))
+    ] ∙ sym (slice_at bytes (512 * t) (512 * t + 512) i (512 * t + i) j refl)))
 
 module _ (seats order bytes : List ℕ) (order_room bytes_room : ℕ) (are : ArePages seats order (length bytes) order_room bytes_room) where
   pub within_bytes : (page : ℕ) → is_there seats order page ≡ true → 512 * get_or seats page 0 + 512 ≤ length bytes

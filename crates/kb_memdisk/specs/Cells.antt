@@ -1,5 +1,5 @@
 -- The bytes of a disk in memory, and what a power cut leaves of them.
-use Rattle.std.specs.Prelude.{◌≡◌, ◌≤◌, ◌<◌, ◌^◌, ℕ, ◌+◌, ◌*◌, ◌/◌, ◌%◌, Bool, true, false, List, Option, map, nat_lt, slice_index_or}
+use Rattle.std.specs.Prelude.{◌≡◌, ◌<◌, ◌^◌, ℕ, ◌+◌, ◌*◌, ◌/◌, ◌%◌, Bool, true, false, List, Option, map, nat_lt, slice_index_or}
 use Rattle.std.specs.List.{range_with_len}
 use Rattle.kb_edge.specs.declared.disk.Pick.{Pick}
 use Rattle.kb_edge.specs.declared.disk.Pick.TheVariants.{Old, New, Noise}

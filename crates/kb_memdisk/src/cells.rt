@@ -5,7 +5,7 @@ ghost use Rattle.kb_memdisk.specs.Cells.{AreCells, is_dirty, now_at, stable_at, 
 ghost use Rattle.kb_memdisk.specs.Pages.{or_zeros, byte_or};
 ghost use Rattle.kb_memdisk.specs.Rows.{page_of, count_of};
 
-use crate::pages::{Pages, PAGE};
+use crate::pages::{PAGE, Pages};
 use kb_edge::{Memory, Pick};
 use std::alloc::Global;
 

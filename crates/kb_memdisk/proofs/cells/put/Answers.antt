@@ -1,4 +1,4 @@
-use Rattle.std.proofs.Common.{◌/◌, ◌%◌, ◌∙◌, arith}
+use Rattle.std.proofs.Common.{◌/◌, ◌%◌}
 use Rattle.kb_memdisk.specs.Rows.{page_of}
 use Rattle.kb_memdisk.proofs.Places.{both_steps, now_put}
 use Rattle.kb_memdisk.proofs.Seats.{page_size}

@@ -1,4 +1,4 @@
-use Rattle.std.proofs.Common.{◌/◌, sym, ap, ◌∙◌}
+use Rattle.std.proofs.Common.{sym, ap, ◌∙◌}
 use Rattle.std.specs.Option.{option_map}
 use Rattle.kb_memdisk.specs.Rows.{page_of}
 use Rattle.kb_memdisk.proofs.Places.{read_text, read_zeros}

@@ -1,6 +1,3 @@
-use Rattle.kb_memdisk.specs.Rows.{page_of}
-use Rattle.std.proofs.Common.{ap, ◌∙◌, cond, eqb, Some}
-use Rattle.kb_memdisk.specs.Pages.{or_zeros}
 use Rattle.kb_memdisk.proofs.Places.{missed}
 use Rattle.kb_memdisk.proofs.cells.touch.Goals as goal
 

@@ -1,4 +1,4 @@
-use Rattle.std.proofs.Common.{◌≡◌, ◌<◌, length, get_or, sym, ap, ◌∙◌, arith}
+use Rattle.std.proofs.Common.{◌<◌, length, get_or, sym, ap, ◌∙◌, arith}
 use Rattle.kb_memdisk.specs.Cells.{now_at}
 use Rattle.kb_memdisk.specs.Rows.{page_of}
 use Rattle.kb_memdisk.proofs.Rowed.{row_size, row_at}

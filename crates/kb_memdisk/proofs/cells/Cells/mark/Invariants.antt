@@ -1,7 +1,7 @@
 use Rattle.std.proofs.Common.{◌≡◌, ◌-◌, ◌≤◌, ℕ}
 use Rattle.std.specs.Prelude.{◌||◌}
 use Rattle.kb_edge.specs.Disk.{within}
-use Rattle.kb_memdisk.specs.Cells.{now_at, stable_at, dirty_at}
+use Rattle.kb_memdisk.specs.Cells.{stable_at, dirty_at}
 use Rattle.kb_memdisk.specs.Rows.{page_of}
 use Rattle.kb_memdisk.proofs.cells.Cells.mark.Given as goal
 

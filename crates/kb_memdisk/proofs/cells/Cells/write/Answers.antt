@@ -1,7 +1,6 @@
-use Rattle.std.proofs.Common.{◌≡◌, ◌≤◌, ◌<◌, ◌+◌, ◌-◌, ℕ, length, take, drop, sym, ap, ◌∙◌, arith}
+use Rattle.std.proofs.Common.{◌≡◌, ◌≤◌, ◌+◌, length, ◌∙◌, arith}
 use Rattle.std.specs.Prelude.{slice_range}
-use Rattle.std.proofs.lemmas.Bool.Decides.{nat_tests}
-use Rattle.kb_memdisk.specs.Cells.{now_at, stable_at, dirty_at}
+use Rattle.kb_memdisk.specs.Cells.{now_at, dirty_at}
 use Rattle.kb_memdisk.specs.Rows.{page_of}
 use Rattle.kb_memdisk.proofs.Overlaid.{slice_size}
 use Rattle.kb_memdisk.proofs.Rowed.{row_size, row_put, dirty_more, put_more, mark_more}

@@ -1,4 +1,4 @@
-use Rattle.std.proofs.Common.{◌/◌, ◌∙◌, sym, ap}
+use Rattle.std.proofs.Common.{◌∙◌}
 use Rattle.kb_memdisk.specs.Rows.{page_of}
 use Rattle.kb_memdisk.proofs.Places.{stable_put}
 use Rattle.kb_memdisk.proofs.cells.Cells.write_part.Goals as goal

@@ -1,5 +1,4 @@
-use Rattle.std.proofs.Common.{length, replicate, arith, refl, sym, ap, ◌+◌, ◌*◌, ◌∙◌, true}
-use Rattle.std.proofs.lemmas.Bool.{false≢true}
+use Rattle.std.proofs.Common.{sym, ap, ◌+◌, ◌*◌, ◌∙◌}
 use Rattle.kb_memdisk.proofs.Seats.{some_there, seat_is, page_put, no_seat}
 use Rattle.kb_memdisk.proofs.pages.Pages.put.Goals as goal
 
