@@ -1,1 +1,5 @@
-pub mod Synced
+mod Cuts
+mod Overlaid
+mod Places
+mod Rowed
+mod Seats

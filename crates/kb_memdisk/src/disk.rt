@@ -23,11 +23,12 @@ pub struct MemDisk {
 }
 
 impl Model for MemDisk {
+    ghost use Rattle.kb_memdisk.specs.Kept.{now_of, stable_of, dirty_of};
     ghost use Rattle.kb_memdisk.specs.Memory.{DiskState};
 
     ghost Value = { DiskState };
 
-    ghost view = { λ d. record { now = d.cells.now.items; stable = d.cells.stable.items; dirty = d.cells.dirty.items; left = d.left; enters = d.enters; faults = d.faults } };
+    ghost view = { λ d. record { now = now_of d.cells; stable = stable_of d.cells; dirty = dirty_of d.cells; left = d.left; enters = d.enters; faults = d.faults } };
 }
 
 impl MemDisk {
@@ -35,7 +36,12 @@ impl MemDisk {
     pub fn new(alloc: Global, size: u32) -> Result<MemDisk, Memory>
         ensures { IfOk result (λ d. d ≡ record { now = replicate size 0; stable = replicate size 0; dirty = replicate size false; left = None; enters = true; faults = 0 }) }
     {
-        MemDisk::with_image(alloc, vec![in alloc; 0u8; size as usize]?)
+        Ok(MemDisk {
+            cells: Cells::new(alloc, size)?,
+            left: None,
+            enters: true,
+            faults: 0,
+        })
     }
 
     /// A disk with these bytes, as after a sync.
@@ -44,7 +50,7 @@ impl MemDisk {
         ensures { IfOk result (λ d. d ≡ record { now = image.items; stable = image.items; dirty = replicate (length image.items) false; left = None; enters = true; faults = 0 }) }
     {
         Ok(MemDisk {
-            cells: Cells::new(alloc, image)?,
+            cells: Cells::with_image(alloc, &image)?,
             left: None,
             enters: true,
             faults: 0,
@@ -86,7 +92,7 @@ impl Disk for MemDisk {
     ghost left = { λ d. d.left };
 
     fn size(&self) -> u32 {
-        self.cells.now.len() as u32
+        self.cells.size()
     }
 
     fn read(&mut self, at: u32, into: &mut [u8]) -> Result<(), Stopped>
@@ -105,8 +111,7 @@ impl Disk for MemDisk {
         if self.left == Some(0) {
             return Err(stop(&mut self.faults));
         }
-        let at = at as usize;
-        into.copy_from_slice(&self.cells.now[at..at + into.len()]);
+        self.cells.read(at as usize, into);
         Ok(())
     }
 

@@ -3,6 +3,7 @@
 
 mod cells;
 mod disk;
+mod pages;
 #[cfg(test)]
 mod tests;
 
