@@ -63,6 +63,13 @@ impl Halves {
         }
     }
 
+    /// All halves that are kept.
+    pub fn as_slice(&self) -> &[Half]
+        ensures { result.now ≡ self.now.0 }
+    {
+        self.halves.as_slice()
+    }
+
     /// The half of a device and a generation.
     pub fn get(&self, d: u16, g: u32) -> Option<Key>
         ensures { result ≡ half_at self.now.0 d g }
