@@ -1,8 +1,20 @@
 //! Whole runs over ends in memory.
+mod apply;
 mod branches;
+mod chain;
+mod conflicts;
+mod folder;
+
 mod generated;
+mod journal;
 mod looks;
+mod members;
+mod random;
+mod ranges;
 mod scripts;
+mod snap;
+mod statements;
+mod tree;
 
 use crate::{Status, run_script, run_words};
 use kb_edge::{MemSink, MemSource};

@@ -2,7 +2,7 @@
 ghost use Rattle.std.specs.Prelude.{◌≡◌, ◌<◌, ◌^◌, None, IfOk, length};
 ghost use Rattle.kb_chain.specs.Revisions.{AreSeqs, IsBundleOf, IsProper, IsProperPart};
 
-use super::{
+use kb_chain::{
     BundlePart, Entries, Private, Revision, RevisionFault, RevisionKind, hash_of, proper_law,
 };
 use kb_edge::Memory;

@@ -3,13 +3,13 @@ ghost use Rattle.std.specs.Prelude.{◌≡◌, ◌≢◌, ◌≤◌, ◌<◌, �
 ghost use Rattle.kb_keys.specs.declared.policy.Action.TheVariants as act;
 ghost use Rattle.kb_chain.specs.Revisions.{are_rising, IsProperPart};
 
-use crate::{Folder, HalfFault, NotMember};
 use kb_blocks::{Hash, Sha256Hash};
 use kb_chain::{
     Blocks, BundlePart, Entries, FolderRequest, PutRefusal, Revision, RevisionKind, SentHalves,
     hash_of,
 };
 use kb_edge::Memory;
+use kb_folder::{Folder, HalfFault, NotMember};
 use kb_keys::{Action, Entry, Half, Secrets};
 use kb_name::Moment;
 use kb_ops::Bytes;

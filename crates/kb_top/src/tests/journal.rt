@@ -1,9 +1,9 @@
 //! Journals over disks in memory.
-ghost use Rattle.std.specs.Prelude.{◌≡◌, ◌≤◌, ◌^◌, true, IfOk, OnOk};
+ghost use Rattle.std.specs.Prelude.{◌≡◌, true, IfOk, OnOk};
 ghost use Rattle.kb_ops.specs.Grammar.{MeetsRules};
 
-use crate::{AddFault, Journal, JournalFault, Note};
-use kb_edge::{Disk, Memory, Pick, Stopped};
+use kb_edge::{Disk, Memory};
+use kb_journal::{AddFault, Journal, JournalFault};
 use kb_log::Log;
 use kb_memdisk::MemDisk;
 use kb_name::{Moment, Name, NodeId};
@@ -203,139 +203,5 @@ fn the_last_seq_is_spent(rt: HostRuntime) -> Result<(), Fail> {
     let mut journal = journal_of(alloc, &[&head])?;
     let answer = add(alloc, &mut journal, write(alloc, 1)?);
     assert_eq!(rt; answer, Err(AddFault::Spent));
-    Ok(())
-}
-
-// Notes that this revision is known.
-fn head<D: Disk>(journal: &mut Journal<D>, number: u32) -> Result<(), Stopped>
-    requires { journal.old.is_open ≡ true }
-    ensures { OnOk result (journal.new.is_open ≡ true) }
-{
-    if !journal.queue().is_empty() || number < journal.known() {
-        return Err(Stopped);
-    }
-    let hash = [9; 32];
-    journal.note(&Note::Head { number, hash })
-}
-
-// Notes that the first of the queue landed in this revision.
-fn land<D: Disk>(journal: &mut Journal<D>, number: u32) -> Result<(), Stopped>
-    requires { journal.old.is_open ≡ true }
-    ensures { OnOk result (journal.new.is_open ≡ true) }
-{
-    let known = journal.known();
-    if journal.queue().is_empty()
-        || journal.branched()
-        || known == u32::MAX
-        || number != known + 1
-    {
-        return Err(Stopped);
-    }
-    let hash = [9; 32];
-    journal.note(&Note::Landed { number, hash })
-}
-
-#[test]
-fn a_note_is_kept(rt: HostRuntime) -> Result<(), Fail> {
-    let alloc = rt.alloc();
-    let mut journal = journal_of(alloc, &[])?;
-    head(&mut journal, 1)?;
-    add(alloc, &mut journal, write(alloc, 3)?)?;
-    journal.arm(4);
-    land(&mut journal, 2)?;
-    let disk = journal.power(Pick::Old);
-    if disk.size() < 4096 || disk.size() > 16_777_216 {
-        return Err(Fail::from("size"));
-    }
-    match Journal::open(alloc, disk) {
-        Ok(journal) => {
-            assert!(rt; journal.queue().is_empty());
-            assert_eq!(rt; journal.last(), 1);
-        }
-        Err((_, fault)) => return Err(Fail::from(fault)),
-    }
-    Ok(())
-}
-
-// Notes that the queue is a branch.
-fn branch<D: Disk>(journal: &mut Journal<D>) -> Result<(), Stopped>
-    requires { journal.old.is_open ≡ true }
-    ensures { OnOk result (journal.new.is_open ≡ true) }
-{
-    if journal.queue().is_empty() || journal.branched() {
-        return Err(Stopped);
-    }
-    journal.note(&Note::Branched)
-}
-
-// Notes that so many of the queue were merged in this revision.
-fn merge<D: Disk>(journal: &mut Journal<D>, number: u32, count: u32) -> Result<(), Stopped>
-    requires { journal.old.is_open ≡ true }
-    ensures { OnOk result (journal.new.is_open ≡ true) }
-{
-    if count == 0 || journal.queue().len() < count as usize || number <= journal.known() {
-        return Err(Stopped);
-    }
-    let hash = [7; 32];
-    journal.note(&Note::Merged {
-        number,
-        hash,
-        count,
-    })
-}
-
-#[test]
-fn a_branch_is_merged(rt: HostRuntime) -> Result<(), Fail> {
-    let alloc = rt.alloc();
-    let mut journal = journal_of(alloc, &[])?;
-    head(&mut journal, 1)?;
-    add(alloc, &mut journal, write(alloc, 3)?)?;
-    add(alloc, &mut journal, write(alloc, 4)?)?;
-    branch(&mut journal)?;
-    assert!(rt; journal.branched());
-    merge(&mut journal, 3, 1)?;
-    assert!(rt; !journal.branched());
-    assert_eq!(rt; journal.known(), 3);
-    assert_eq!(rt; journal.queue().len(), 1);
-    assert_eq!(rt; journal.last(), 2);
-    assert_eq!(rt; *journal.known_hash(), [7; 32]);
-    Ok(())
-}
-
-fn touch() -> Change
-    ensures { MeetsRules result }
-{
-    Change::Touch {
-        node: NodeId::ROOT,
-        mtime: Moment::START,
-    }
-}
-
-// A journal of a new disk.
-fn new_journal(alloc: Global, size: u32) -> Result<Journal<MemDisk>, JournalFault>
-    requires low { 4096 ≤ size }
-    requires high { size ≤ 2 ^ 24 }
-    ensures { IfOk result (λ journal. journal.is_open ≡ true) }
-{
-    let disk = match MemDisk::new(alloc, size) {
-        Ok(disk) => disk,
-        Err(Memory) => return Err(JournalFault::Memory),
-    };
-    match Journal::open(alloc, disk) {
-        Ok(journal) => Ok(journal),
-        Err((_, fault)) => Err(fault),
-    }
-}
-
-#[test]
-fn the_queue_is_full(rt: HostRuntime) -> Result<(), Fail> {
-    let alloc = rt.alloc();
-    let mut journal = new_journal(alloc, 1_048_576)?;
-    for _ in 0..4096 {
-        add(alloc, &mut journal, touch())?;
-    }
-    let answer = add(alloc, &mut journal, touch());
-    assert_eq!(rt; answer, Err(AddFault::QueueFull));
-    assert_eq!(rt; journal.last(), 4096);
     Ok(())
 }

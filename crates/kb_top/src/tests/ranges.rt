@@ -2,11 +2,11 @@
 ghost use Rattle.std.specs.Prelude.{◌≡◌, ◌+◌, ◌<◌, ◌≤◌, IfOk, IsSome};
 ghost use Rattle.kb_keys.specs.Rings.{key_at};
 
-use crate::{patch, read_range};
 use kb_blocks::{Ptr, Sha256Hash, Steps, Store};
 use kb_edge::Memory;
 use kb_files::{LoadFault, join, split};
 use kb_keys::KeyRing;
+use kb_ranges::{patch, read_range};
 use kb_seal::HmacSealer;
 use std::alloc::Global;
 use std::marker::Brand;

@@ -6,8 +6,8 @@ use kb_world::World;
 use std::alloc::Global;
 use std::test::Fail;
 
-// Whether a script runs to its end and prints this.
-pub fn runs(alloc: Global, script: &str, text: &str) -> Result<bool, Fail> {
+/// What a script prints that runs to its end.
+pub fn printed(alloc: Global, script: &str) -> Result<String, Fail> {
     let bytes = script.as_bytes().to_vec(alloc)?;
     let mut source = MemSource::new(bytes, 65_536, Vec::new(alloc));
     let Ok(mut sink) = MemSink::new(alloc, 131_072, Vec::new(alloc)) else {
@@ -15,7 +15,19 @@ pub fn runs(alloc: Global, script: &str, text: &str) -> Result<bool, Fail> {
     };
     let mut world = World::new(alloc, Rack);
     let ended = run_script(alloc, &mut source, &mut sink, &mut world);
-    Ok(ended == Status::Done && sink.bytes() == text.as_bytes())
+    if ended != Status::Done {
+        return Err(Fail::from("another end"));
+    }
+    match str::from_utf8(sink.bytes()) {
+        Ok(text) => Ok(String::from_str(alloc, text)?),
+        Err(_) => Err(Fail::from("no text")),
+    }
+}
+
+/// Whether a script runs to its end and prints this.
+pub fn runs(alloc: Global, script: &str, text: &str) -> Result<bool, Fail> {
+    let printed = printed(alloc, script)?;
+    Ok(printed.as_str() == text)
 }
 
 // The same of calls of one device with a disk of a size, which was founded and opened before.
@@ -42,6 +54,43 @@ fn writes_and_cuts(rt: HostRuntime) -> Result<(), Fail> {
     let text =
         "laptop: done 1\nlaptop: done 2\nlaptop: =%00%00%00ab\nlaptop: done 3\nlaptop: stat f 1.1.0 size 16777216 exec - mtime 0\nlaptop: refused TooBig\nlaptop: done 4\nlaptop: same\nlaptop: same\nlaptop: =\n";
     assert!(rt; prints(rt.alloc(), 65_536, calls, text)?);
+    Ok(())
+}
+
+#[test]
+fn small_changes_and_what_is_shown(rt: HostRuntime) -> Result<(), Fail> {
+    let calls =
+        "mkdir laptop /a\nmkfile laptop /a/f\ntouch laptop /a/f 7\ntouch laptop /a/f 7\nchmod laptop /a/f x\nchmod laptop /a/f x\nchmod laptop /a x\nmv laptop /a/f b\nmv laptop /a/f /g\nstat laptop /g\nls laptop /g\nls laptop /c\nls laptop //\ncat laptop /a\nlink laptop /a/B =t\ncat laptop /a/B\n";
+    let text =
+        "laptop: done 1\nlaptop: done 2\nlaptop: done 3\nlaptop: same\nlaptop: done 4\nlaptop: same\nlaptop: refused NotFile\nlaptop: refused BadPath\nlaptop: done 5\nlaptop: stat f 1.2.0 size 0 exec x mtime 7\nlaptop: refused NotDir\nlaptop: refused NotFound\nlaptop: refused BadPath\nlaptop: refused NotFile\nlaptop: done 6\nlaptop: =t\n";
+    assert!(rt; prints(rt.alloc(), 65_536, calls, text)?);
+    Ok(())
+}
+
+#[test]
+fn removals_and_what_refuses_them(rt: HostRuntime) -> Result<(), Fail> {
+    let calls =
+        "mkdir laptop /a\nmkfile laptop /a/f\nmkdir laptop /b\nmv laptop / /\nmv laptop /b /\nmv laptop /a/f/y /none/x\nrm laptop /a\nrm laptop /a/f\nrm laptop /a\nrm laptop /b\nrm laptop /\n";
+    let text =
+        "laptop: done 1\nlaptop: done 2\nlaptop: done 3\nlaptop: refused Inside\nlaptop: refused NotEmpty\nlaptop: refused NotFound\nlaptop: refused NotEmpty\nlaptop: done 4\nlaptop: done 5\nlaptop: done 6\nlaptop: refused Inside\n";
+    assert!(rt; prints(rt.alloc(), 65_536, calls, text)?);
+    Ok(())
+}
+
+#[test]
+fn deep_paths_and_long_links(rt: HostRuntime) -> Result<(), Fail> {
+    let alloc = rt.alloc();
+    let mut path = String::new(alloc);
+    for _ in 0..64 {
+        path.push_str("/d")?;
+    }
+    let target = letters(alloc, 't', 1024)?;
+    let calls = format!(in alloc;
+        "mkdir laptop {path}\nmkdir laptop {path}/d\nlink laptop /l ={target}t\nlink laptop /l ={target}\n"
+    )?;
+    let text =
+        "laptop: refused NotFound\nlaptop: refused TooDeep\nlaptop: refused TooBig\nlaptop: done 1\n";
+    assert!(rt; prints(alloc, 65_536, calls.as_str(), text)?);
     Ok(())
 }
 

@@ -1,21 +1,17 @@
 //! Trees that are built and loaded.
-ghost use Rattle.std.specs.Prelude.{◌≡◌, ◌≤◌, true, length, replicate, refl, IfOk};
-ghost use Rattle.kb_name.specs.Names.{is_name};
-ghost use Rattle.kb_ops.specs.Rows.{IsPlain};
+ghost use Rattle.std.specs.Prelude.{replicate, refl, IfOk};
 ghost use Rattle.kb_dirs.specs.Dirs.{IsProper, AreProper};
 
-use crate::{
-    Built, Pointers, build, left_law, load, more_blocks_law, one_tree_law, row_by_row_law,
-    stays_law,
-};
+use crate::tests::apply::{link, mkdir, mkfile, write};
 use kb_blocks::{BlockHash, Hash, Ptr, Sha256Hash, Store};
 use kb_dirs::{Entry, build_dir};
 use kb_edge::Memory;
 use kb_files::LoadFault;
 use kb_keys::KeyRing;
 use kb_name::{Moment, Name, NodeId};
-use kb_ops::{Bytes, Kind, Row};
+use kb_ops::Kind;
 use kb_seal::HmacSealer;
+use kb_snap::{Built, Pointers, build, load};
 use kb_tree::Table;
 use std::alloc::Global;
 use std::test::Fail;
@@ -32,86 +28,15 @@ fn id(seq: u32) -> NodeId {
     }
 }
 
-fn dir(alloc: Global, seq: u32, parent: NodeId, name: &[u8]) -> Result<Row, Fail>
-    ensures named { IfOk result (λ r. is_name r.name ≡ true) }
-    ensures plain { IfOk result (λ r. IsPlain r.kind r.bytes r.exec) }
-{
-    Ok(Row {
-        id: id(seq),
-        parent,
-        name: Name::new(alloc, name)?,
-        kind: Kind::Dir,
-        bytes: Bytes::new(Vec::new(alloc)),
-        exec: false,
-        mtime: Moment::START,
-    })
-}
-
-fn file(alloc: Global, seq: u32, parent: NodeId, name: &[u8], bytes: &[u8]) -> Result<Row, Fail>
-    requires { length bytes.now ≤ 16777216 }
-    ensures named { IfOk result (λ r. is_name r.name ≡ true) }
-    ensures plain { IfOk result (λ r. IsPlain r.kind r.bytes r.exec) }
-{
-    Ok(Row {
-        id: id(seq),
-        parent,
-        name: Name::new(alloc, name)?,
-        kind: Kind::File,
-        bytes: Bytes::new(Vec::from_slice(alloc, bytes)?),
-        exec: true,
-        mtime: Moment::START,
-    })
-}
-
-fn link(alloc: Global, seq: u32, parent: NodeId, name: &[u8], target: &[u8]) -> Result<Row, Fail>
-    requires { length target.now ≤ 16777216 }
-    ensures named { IfOk result (λ r. is_name r.name ≡ true) }
-    ensures plain { IfOk result (λ r. IsPlain r.kind r.bytes r.exec) }
-{
-    Ok(Row {
-        id: id(seq),
-        parent,
-        name: Name::new(alloc, name)?,
-        kind: Kind::Link,
-        bytes: Bytes::new(Vec::from_slice(alloc, target)?),
-        exec: false,
-        mtime: Moment::START,
-    })
-}
-
-// Adds a row, if its id and its place are free and it goes into a Dir.
-fn add(table: &mut Table, row: Row) -> Result<bool, Fail>
-    requires named { is_name row.name ≡ true }
-    requires plain { IsPlain row.kind row.bytes row.exec }
-{
-    table.is_well_formed();
-    table.reserve()?;
-    if table.get(row.id).is_some() {
-        return Ok(false);
-    }
-    if !table.is_dir(row.parent) {
-        return Ok(false);
-    }
-    if table.child(row.parent, &row.name).is_some() {
-        return Ok(false);
-    }
-    table.insert(row);
-    Ok(true)
-}
-
 // The root with `/d`, `/d/f` of 5,000 bytes, `/d/none` of none, `/d/e` and `/l`.
 fn every_kind(alloc: Global) -> Result<Table, Fail> {
     let mut table = Table::new(alloc)?;
-    let d = dir(alloc, 1, NodeId::ROOT, b"d")?;
-    let l = link(alloc, 2, NodeId::ROOT, b"l", b"d/f")?;
-    let f = file(alloc, 3, id(1), b"f", &[7; 5000])?;
-    let none = file(alloc, 4, id(1), b"none", &[])?;
-    let e = dir(alloc, 5, id(1), b"e")?;
-    add(&mut table, d)?;
-    add(&mut table, l)?;
-    add(&mut table, f)?;
-    add(&mut table, none)?;
-    add(&mut table, e)?;
+    mkdir(alloc, &mut table, 1, "/d")?;
+    link(alloc, &mut table, 2, "/l", b"d/f")?;
+    mkfile(alloc, &mut table, 3, "/d/f")?;
+    write(alloc, &mut table, 9, "/d/f", &[7; 5000])?;
+    mkfile(alloc, &mut table, 4, "/d/none")?;
+    mkdir(alloc, &mut table, 5, "/d/e")?;
     Ok(table)
 }
 
@@ -149,8 +74,7 @@ fn two_generations(alloc: Global) -> Result<(usize, usize), Fail> {
     if !is_loaded(alloc, &table, built.root, &store)? {
         return Ok((0, 0));
     }
-    let more = file(alloc, 6, id(1), b"more", b"abc")?;
-    add(&mut table, more)?;
+    mkfile(alloc, &mut table, 6, "/d/more")?;
     let mut pointers = built.pointers;
     pointers.forget(&table, id(6));
     let again = build::<HmacSealer, Sha256Hash>(alloc, &table, &pointers, &NEW_KEY, 8)?;
@@ -246,15 +170,6 @@ fn given_back(alloc: Global) -> Result<usize, Fail> {
 fn a_tree_of_the_root_alone_is_one_block(rt: HostRuntime) -> Result<(), Fail> {
     assert_eq!(rt; given_back(rt.alloc())?, 1);
     Ok(())
-}
-
-#[test]
-fn the_laws_hold_of_hmac_and_sha256() {
-    one_tree_law::<HmacSealer, Sha256Hash>();
-    more_blocks_law::<HmacSealer, Sha256Hash>();
-    row_by_row_law::<HmacSealer, Sha256Hash>();
-    stays_law::<HmacSealer, Sha256Hash>();
-    left_law::<HmacSealer, Sha256Hash>();
 }
 
 #[test]

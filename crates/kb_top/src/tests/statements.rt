@@ -1,5 +1,5 @@
-//! A short script, in part.
-use crate::generate;
+//! A short generated script, in part.
+use kb_gen::generate;
 use kb_ops::Request;
 use kb_script::Statement;
 use std::test::Fail;
