@@ -4,7 +4,6 @@ mod branches;
 mod chain;
 mod conflicts;
 mod folder;
-
 mod generated;
 mod journal;
 mod looks;

@@ -1,5 +1,5 @@
 use Rattle.std.proofs.Common.{◌≡◌, true, length}
-use Rattle.kb_journal.proofs.tests.journal_of.Given as goal
+use Rattle.kb_top.proofs.tests.journal.journal_of.Given as goal
 
 abbrev pub invariant-loop-payload : goal.invariant-loop-payload
 invariant-loop-payload l = record {
