@@ -218,7 +218,7 @@ fn a_file_grows_and_shrinks_over_levels(rt: HostRuntime) {
 
 #[test]
 fn a_byte_of_a_big_file_takes_three_blocks(rt: HostRuntime) {
-    assert!(&rt; patches(rt.alloc(), 1_000_000, 0, 1, 1_000_000, 3) == Ok(true));
+    assert!(&rt; patches(rt.alloc(), 270_000, 0, 1, 270_000, 3) == Ok(true));
 }
 
 #[test]
