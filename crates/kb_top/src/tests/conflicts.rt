@@ -81,8 +81,7 @@ fn a_removed_directory_comes_back_for_a_kept_file(rt: HostRuntime) -> Result<(),
 #[test]
 fn both_made_one_directory(rt: HostRuntime) -> Result<(), Fail> {
     let laptop = "mkdir laptop /n\nmkfile laptop /n/x\nwrite laptop /n/x 0 =m\n";
-    let phone =
-        "mkdir phone /n\nmkfile phone /n/x\nwrite phone /n/x 0 =u\nmkfile phone /n/y\n";
+    let phone = "mkdir phone /n\nmkfile phone /n/x\nwrite phone /n/x 0 =u\nmkfile phone /n/y\n";
     let text =
         "9 copies 0 renamed 1 joined 1\nphone: tree at 9 queue 0 rows 6\nd /n 1714521600\nf /n/x 1 - 1714521600\nf /n/x.conflicted%20(phone%20copy%202024-05-01) 1 - 1714521600\nf /n/y 0 - 1714521600\nf /t 0 - 1714521600\nphone: =m\n";
     let shows = "tree phone\ncat phone /n/x\n";

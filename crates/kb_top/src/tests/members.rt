@@ -15,8 +15,10 @@ fn who_changes_the_members(rt: HostRuntime) -> Result<(), Fail> {
 #[test]
 fn keys_end(rt: HostRuntime) -> Result<(), Fail> {
     let alloc = rt.alloc();
-    let mut script =
-        String::from_str(alloc, "device laptop 65536\ndevice phone 65536\nfound laptop\n")?;
+    let mut script = String::from_str(
+        alloc,
+        "device laptop 65536\ndevice phone 65536\nfound laptop\n",
+    )?;
     let mut text = String::from_str(alloc, "folder: at 1\n")?;
     for _ in 0..64 {
         script.push_str("grant laptop phone writer\nrevoke laptop phone\n")?;

@@ -76,7 +76,12 @@ fn conflicts(alloc: Global, seed: u64) -> Result<bool, Fail> {
     if by_actions != by_rows {
         return Err(Fail::from("two merges differ"));
     }
-    Ok(by_rows.as_str().find(" copies 0 renamed 0 joined 0\n").is_none())
+    Ok(
+        by_rows
+            .as_str()
+            .find(" copies 0 renamed 0 joined 0\n")
+            .is_none(),
+    )
 }
 
 #[test]
