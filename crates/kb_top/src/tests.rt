@@ -1,4 +1,5 @@
 //! Whole runs over ends in memory.
+mod audit;
 mod branches;
 mod generated;
 mod looks;
