@@ -1,18 +1,18 @@
 //! What an audit tells of a folder's bytes, and where something of them is wrong.
-ghost use Rattle.std.specs.Prelude.{◌≡◌, ◌≤◌, ◌<◌, [], IfOk};
+ghost use Rattle.std.specs.Prelude.{◌≡◌, [], IfOk};
 ghost use Rattle.kb_folder.specs.Held.{held};
 ghost use Rattle.kb_folder.specs.Lands.{FolderStands};
 ghost use Rattle.kb_rekey.specs.Founding.{any_names};
 
 use super::scripts::runs;
 use kb_audit::{AuditFault, AuditWhy, audit};
-use kb_blocks::{Sha256Hash, Store};
+use kb_blocks::{BlockHash, Sha256Hash, Store};
 use kb_edge::Memory;
 use kb_folder::{Folder, beginning_law};
 use kb_keys::{Half, Halves, Role, Secrets};
 use kb_name::{DeviceName, Moment};
 use kb_rekey::{found, grant};
-use kb_seal::HmacSealer;
+use kb_seal::{HmacSealer, Sealer};
 use std::alloc::Global;
 use std::test::Fail;
 
@@ -21,31 +21,33 @@ fn secrets() -> Secrets {
 }
 
 // A folder of three devices.
-fn registered(alloc: Global, secrets: &Secrets) -> Result<Folder<HmacSealer, Sha256Hash>, Memory>
-    ensures standing { IfOk result (λ f. FolderStands HmacSealer.sealed HmacSealer.signed Sha256Hash.hashed secrets.now any_names (held f) []) }
+fn registered<S: Sealer, H: BlockHash>(
+    alloc: Global,
+    secrets: &Secrets,
+) -> Result<Folder<S, H>, Memory>
+    ensures standing { IfOk result (λ f. FolderStands S.sealed S.signed H.hashed secrets.now any_names (held f) []) }
     ensures registered { IfOk result (λ f. (held f).state.registered ≡ 3) }
 {
-    beginning_law::<HmacSealer, Sha256Hash>();
-    let mut folder = Folder::new(alloc, 1000000);
+    beginning_law::<S, H>();
+    let mut folder = Folder::<S, H>::new(alloc, 1000000);
     folder.register(1, secrets.device(1))?;
     folder.register(2, secrets.device(2))?;
     folder.register(3, secrets.device(3))?;
     Ok(folder)
 }
 
-// The first one founded it and granted the others.
-fn three(alloc: Global, secrets: &Secrets) -> Result<Folder<HmacSealer, Sha256Hash>, Memory> {
-    let mut folder = registered(alloc, secrets)?;
-    found(alloc, &mut folder, secrets, 1, Moment::START)?;
-    match grant(alloc, &mut folder, secrets, 1, 2, Role::Writer, Moment::START) {
-        Ok(_) => {}
-        Err(_) => return Err(Memory),
+// The first one founded it and granted another.
+fn granted<S: Sealer, H: BlockHash>(
+    alloc: Global,
+    secrets: &Secrets,
+) -> Result<Folder<S, H>, Memory> {
+    let mut folder = registered::<S, H>(alloc, secrets)?;
+    found::<S, H>(alloc, &mut folder, secrets, 1, Moment::START)?;
+    let role = Role::Writer;
+    match grant::<S, H>(alloc, &mut folder, secrets, 1, 2, role, Moment::START) {
+        Ok(_) => Ok(folder),
+        Err(_) => Err(Memory),
     }
-    match grant(alloc, &mut folder, secrets, 1, 3, Role::Reader, Moment::START) {
-        Ok(_) => {}
-        Err(_) => return Err(Memory),
-    }
-    Ok(folder)
 }
 
 fn copied(alloc: Global, revisions: &[Vec<u8>]) -> Result<Vec<Vec<u8>>, Memory> {
@@ -94,13 +96,16 @@ fn at(number: u32, why: AuditWhy) -> Result<u32, AuditFault> {
     Err(AuditFault::At { number, why })
 }
 
-// With another last byte of one revision, which is one of its signature.
-fn forge(revisions: &mut Vec<Vec<u8>>, place: usize) {
-    if let Some(bytes) = revisions.get_mut(place)
-        && let Some(byte) = bytes.last_mut()
-    {
-        *byte ^= 1;
+// With another last byte of the last revision, which is one of its signature.
+fn forge(revisions: &mut Vec<Vec<u8>>) -> Result<(), Memory> {
+    if let Some(bytes) = revisions.pop() {
+        let mut forged = bytes;
+        if let Some(byte) = forged.pop() {
+            forged.push(byte ^ 1)?;
+        }
+        revisions.push(forged)?;
     }
+    Ok(())
 }
 
 // One half alone.
@@ -119,20 +124,20 @@ fn one_half(alloc: Global, device: u16, generation: u32) -> Result<Halves, Memor
 #[test]
 fn a_folder_is_whole_until_it_is_changed(rt: HostRuntime) -> Result<(), Memory> {
     let alloc = rt.alloc();
-    let folder = three(alloc, &secrets())?;
+    let folder = granted::<HmacSealer, Sha256Hash>(alloc, &secrets())?;
     let (store, halves) = (folder.store(), folder.halves());
     let none = Store::new(alloc);
     let mut revisions = copied(alloc, folder.revisions())?;
-    assert!(&rt; told(alloc, revisions.as_slice(), store, halves) == Ok(3));
+    assert!(&rt; told(alloc, revisions.as_slice(), store, halves) == Ok(2));
     assert!(&rt; told(alloc, revisions.as_slice(), &none, halves) == at(1, AuditWhy::Blocks));
     let few = one_half(alloc, 1, 1)?;
-    assert!(&rt; told(alloc, revisions.as_slice(), store, &few) == at(3, AuditWhy::Halves));
-    forge(&mut revisions, 2);
-    assert!(&rt; told(alloc, revisions.as_slice(), store, halves) == at(3, AuditWhy::Signature));
-    if revisions.len() == 3 {
-        revisions.swap(1, 2);
+    assert!(&rt; told(alloc, revisions.as_slice(), store, &few) == at(2, AuditWhy::Halves));
+    forge(&mut revisions)?;
+    assert!(&rt; told(alloc, revisions.as_slice(), store, halves) == at(2, AuditWhy::Signature));
+    if revisions.len() == 2 {
+        revisions.swap(0, 1);
     }
-    assert!(&rt; told(alloc, revisions.as_slice(), store, halves) == at(2, AuditWhy::Number));
+    assert!(&rt; told(alloc, revisions.as_slice(), store, halves) == at(1, AuditWhy::Number));
     Ok(())
 }
 
