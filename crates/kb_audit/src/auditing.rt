@@ -14,7 +14,7 @@ use crate::taking::take_revision;
 use kb_blocks::{BlockHash, Store};
 use kb_chain::ChainState;
 use kb_edge::Memory;
-use kb_keys::{Half, KeyRing, Policy, Secrets};
+use kb_keys::{Halves, KeyRing, Policy, Secrets};
 use kb_name::DeviceName;
 use kb_seal::Sealer;
 use kb_tree::Table;
@@ -45,13 +45,13 @@ pub fn audit<S: Sealer, H: BlockHash>(
     alloc: Global,
     revisions: &[Vec<u8>],
     store: &Store<H>,
-    halves: &[Half],
+    halves: &Halves,
     names: &[DeviceName],
     secrets: &Secrets,
 ) -> Result<u32, AuditFault>
     requires few { length names.now ≤ 32 }
     requires many { length revisions.now < 2 ^ 32 }
-    ensures { Audits S.sealed S.signed H.hashed secrets.now (name_at names.now) (length names.now) (map.get store.now) (each (λ b. b.items) revisions.now) halves.now result }
+    ensures { Audits S.sealed S.signed H.hashed secrets.now (name_at names.now) (length names.now) (map.get store.now) (each (λ b. b.items) revisions.now) halves.now.0 result }
 {
     let mut known = match begin(alloc, names.len() as u16) {
         Ok(known) => known,
@@ -64,7 +64,8 @@ pub fn audit<S: Sealer, H: BlockHash>(
             Err(fault) => return Err(told(number, fault)),
         }
     }
-    if !halves_meet(&known.state.policy, halves, secrets) {
+    let kept = halves.as_slice();
+    if !halves_meet(&known.state.policy, kept, secrets) {
         return Err(AuditFault::At {
             number: known.state.length,
             why: AuditWhy::Halves,

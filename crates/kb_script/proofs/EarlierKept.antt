@@ -3,7 +3,7 @@ use Rattle.std.proofs.Common.{◌≡◌, ℕ, Bool, List, [], ◌∷◌, ◌++�
 use Rattle.std.specs.List.{list_any}
 use Rattle.std.proofs.lemmas.List.{reverse-append}
 use Rattle.kb_script.specs.declared.statements.Statement.{Statement}
-use Rattle.kb_script.specs.declared.statements.Statement.TheVariants.{Seed, Device, Found, Grant, Revoke, At, Open, Pick, Land, Note, Flush, Drain, Pull, Fetch, Settle, Resolve, Status, Fuse, Power, Folder, File, Look}
+use Rattle.kb_script.specs.declared.statements.Statement.TheVariants.{Seed, Device, Found, Grant, Revoke, At, Open, Pick, Land, Note, Flush, Drain, Pull, Fetch, Settle, Resolve, Status, Fuse, Power, Folder, Verify, File, Look}
 use Rattle.kb_script.specs.Fit.{IsFit, AllFit, AllFitFrom, declared_after, found_after}
 use Rattle.kb_script.specs.Seen.{Known}
 use Rattle.kb_script.specs.Earlier.{known_of, after, declared, is_found, AllFitBack}
@@ -29,6 +29,7 @@ known_step earlier (Status d) = refl
 known_step earlier (Fuse d n) = refl
 known_step earlier (Power d p) = refl
 known_step earlier Folder = refl
+known_step earlier Verify = refl
 known_step earlier (File d r) = refl
 known_step earlier (Look d r) = refl
 
@@ -67,6 +68,7 @@ counted (Status d) earlier = refl
 counted (Fuse d n) earlier = refl
 counted (Power d p) earlier = refl
 counted Folder earlier = refl
+counted Verify earlier = refl
 counted (File d r) earlier = refl
 counted (Look d r) earlier = refl
 
@@ -91,6 +93,7 @@ founded (Status d) earlier = refl
 founded (Fuse d n) earlier = refl
 founded (Power d p) earlier = refl
 founded Folder earlier = refl
+founded Verify earlier = refl
 founded (File d r) earlier = refl
 founded (Look d r) earlier = refl
 

@@ -3,7 +3,7 @@ use Rattle.std.specs.Prelude.{◌≡◌, ℕ, ◌+◌, ◌≤◌, ◌<◌, Bool,
 use Rattle.kb_name.specs.Names.{is_device_name}
 use Rattle.kb_name.specs.Moments.{last_second}
 use Rattle.kb_script.specs.declared.statements.Statement.{Statement}
-use Rattle.kb_script.specs.declared.statements.Statement.TheVariants.{Seed, Device, Found, Grant, Revoke, At, Open, Pick, Land, Note, Flush, Drain, Pull, Fetch, Settle, Resolve, Status, Fuse, Power, Folder, File, Look}
+use Rattle.kb_script.specs.declared.statements.Statement.TheVariants.{Seed, Device, Found, Grant, Revoke, At, Open, Pick, Land, Note, Flush, Drain, Pull, Fetch, Settle, Resolve, Status, Fuse, Power, Folder, Verify, File, Look}
 
 -- a device is named by its number, from 1, after it was declared
 abbrev pub IsDeclared : ℕ → ℕ → Type 0
@@ -32,6 +32,7 @@ IsFit count found (Status device) = (found ≡ true) × IsDeclared count device
 IsFit count found (Fuse device steps) = IsDeclared count device
 IsFit count found (Power device pick) = (found ≡ true) × IsDeclared count device
 IsFit count found Folder = found ≡ true
+IsFit count found Verify = found ≡ true
 IsFit count found (File device request) = (found ≡ true) × IsDeclared count device
 IsFit count found (Look device show) = (found ≡ true) × IsDeclared count device
 

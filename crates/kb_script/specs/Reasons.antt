@@ -75,6 +75,7 @@ said k verb.Status ws = statement.Status (number_of k (word ws 1))
 said k verb.Fuse ws = statement.Fuse (number_of k (word ws 1)) (value (word ws 2))
 said k verb.Power ws = statement.Power (number_of k (word ws 1)) (pick_of (word ws 2))
 said k verb.Folder ws = statement.Folder
+said k verb.Verify ws = statement.Verify
 said k verb.Mkdir ws = statement.File (number_of k (word ws 1)) (request.Mkdir (word ws 2))
 said k verb.Mkfile ws = statement.File (number_of k (word ws 1)) (request.Mkfile (word ws 2))
 said k verb.Link ws = statement.File (number_of k (word ws 1)) (request.Link (word ws 2) (bytes_in (word ws 3)))

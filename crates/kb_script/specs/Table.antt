@@ -1,10 +1,10 @@
 -- The statements: how their first word is spelled, what words may follow it, and where they may stand.
-use Rattle.std.specs.Prelude.{ℕ, Bool, List, [], ◌∷◌, ◌++◌, find, codes, Option, if◌then◌else◌}
+use Rattle.std.specs.Prelude.{ℕ, Bool, List, [], ◌∷◌, find, codes, Option, if◌then◌else◌}
 use Rattle.std.specs.List.{list_any}
 use Rattle.std.specs.Str.{bytes_eq}
 use Rattle.kb_name.specs.Moments.{last_second}
 use Rattle.kb_script.specs.declared.verbs.Verb.{Verb}
-use Rattle.kb_script.specs.declared.verbs.Verb.TheVariants.{Seed, Device, Found, Grant, Revoke, At, Open, Pick, Land, Note, Flush, Drain, Pull, Fetch, Settle, Resolve, Status, Fuse, Power, Folder, Mkdir, Mkfile, Link, Remove, Move, Write, Cut, Chmod, Touch, Cat, Ls, Tree, Stat}
+use Rattle.kb_script.specs.declared.verbs.Verb.TheVariants.{Seed, Device, Found, Grant, Revoke, At, Open, Pick, Land, Note, Flush, Drain, Pull, Fetch, Settle, Resolve, Status, Fuse, Power, Folder, Verify, Mkdir, Mkfile, Link, Remove, Move, Write, Cut, Chmod, Touch, Cat, Ls, Tree, Stat}
 
 abbrev pub spelling : Verb → List ℕ
 spelling Seed = codes "seed"
@@ -27,6 +27,7 @@ spelling Status = codes "status"
 spelling Fuse = codes "fuse"
 spelling Power = codes "power"
 spelling Folder = codes "folder"
+spelling Verify = codes "verify"
 spelling Mkdir = codes "mkdir"
 spelling Mkfile = codes "mkfile"
 spelling Link = codes "link"
@@ -42,22 +43,18 @@ spelling Tree = codes "tree"
 spelling Stat = codes "stat"
 
 abbrev pub verbs : List Verb
-verbs = Seed ∷ Device ∷ Found ∷ Grant ∷ Revoke ∷ At ∷ Open ∷ Pick ∷ Land ∷ Note ∷ Flush ∷ Drain ∷ Pull ∷ Fetch ∷ Settle ∷ Resolve ∷ Status ∷ Fuse ∷ Power ∷ Folder ∷ Mkdir ∷ Mkfile ∷ Link ∷ Remove ∷ Move ∷ Write ∷ Cut ∷ Chmod ∷ Touch ∷ Cat ∷ Ls ∷ Tree ∷ Stat ∷ []
+verbs = Seed ∷ Device ∷ Found ∷ Grant ∷ Revoke ∷ At ∷ Open ∷ Pick ∷ Land ∷ Note ∷ Flush ∷ Drain ∷ Pull ∷ Fetch ∷ Settle ∷ Resolve ∷ Status ∷ Fuse ∷ Power ∷ Folder ∷ Verify ∷ Mkdir ∷ Mkfile ∷ Link ∷ Remove ∷ Move ∷ Write ∷ Cut ∷ Chmod ∷ Touch ∷ Cat ∷ Ls ∷ Tree ∷ Stat ∷ []
 
 -- the statement that a first word names
 abbrev pub verb_of : List ℕ → Option Verb
 verb_of w = find (λ v. bytes_eq w (spelling v)) verbs
 
--- the first words of statements that aren't built yet
-abbrev pub later_words : List (List ℕ)
-later_words = codes "verify" ∷ []
-
--- those of a block, which are no words where a block may not stand
+-- the first words of statements that aren't built yet: those of a block, which are no words where a block may not stand
 abbrev pub block_words : List (List ℕ)
 block_words = codes "par" ∷ codes "caller" ∷ codes "flusher" ∷ codes "end" ∷ []
 
 abbrev pub is_later_word : Bool → List ℕ → Bool
-is_later_word live w = list_any (bytes_eq w) (if live then later_words ++ block_words else later_words)
+is_later_word live w = list_any (bytes_eq w) (if live then block_words else [])
 
 -- what may stand at a place behind the first word
 pub data Want : Type 0 where
@@ -102,6 +99,7 @@ forms Status = (OldDevice ∷ []) ∷ []
 forms Fuse = (OldDevice ∷ Number 0 last_u32 ∷ []) ∷ []
 forms Power = (OldDevice ∷ OneOf pick_words ∷ []) ∷ []
 forms Folder = [] ∷ []
+forms Verify = [] ∷ []
 forms Mkdir = (OldDevice ∷ AnyPath ∷ []) ∷ []
 forms Mkfile = (OldDevice ∷ AnyPath ∷ []) ∷ []
 forms Link = (OldDevice ∷ AnyPath ∷ DataWord ∷ []) ∷ []
@@ -149,6 +147,7 @@ place Resolve = Behind
 place Status = Behind
 place Power = Behind
 place Folder = Behind
+place Verify = Behind
 place Mkdir = Behind
 place Mkfile = Behind
 place Link = Behind

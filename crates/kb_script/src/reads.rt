@@ -262,6 +262,17 @@ pub fn folder(seen: &Seen, words: &[&str]) -> Result<Statement, LineFault>
     Ok(Statement::Folder)
 }
 
+pub fn verify(seen: &Seen, words: &[&str]) -> Result<Statement, LineFault>
+    ensures value { GivesLine (λ s. s) result (answer (known seen.now) Verb.Verify (texts words.now)) }
+    ensures fit { IfOk result (λ s. IsFit (count_in seen.now) seen.now.found s) }
+{
+    if count(words) != 1 {
+        return Err(LineFault::Bad(Why::Count));
+    }
+    in_order(seen, Verb::Verify)?;
+    Ok(Statement::Verify)
+}
+
 pub fn mkdir(alloc: Global, seen: &Seen, words: &[&str]) -> Result<Statement, LineFault>
     ensures value { GivesLine (λ s. s) result (answer (known seen.now) Verb.Mkdir (texts words.now)) }
     ensures fit { IfOk result (λ s. IsFit (count_in seen.now) seen.now.found s) }

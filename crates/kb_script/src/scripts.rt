@@ -46,6 +46,7 @@ fn statement(alloc: Global, seen: &Seen, verb: Verb, words: &[&str]) -> Result<S
         Verb::Fuse => reads::fuse(seen, words),
         Verb::Power => reads::power(seen, words),
         Verb::Folder => reads::folder(seen, words),
+        Verb::Verify => reads::verify(seen, words),
         Verb::Mkdir => reads::mkdir(alloc, seen, words),
         Verb::Mkfile => reads::mkfile(alloc, seen, words),
         Verb::Link => reads::link(alloc, seen, words),

@@ -44,6 +44,8 @@ pub enum Statement {
     Power { device: u16, pick: Pick },
     /// Lists the revisions.
     Folder,
+    /// Audits the folder.
+    Verify,
     File { device: u16, request: Request },
     Look { device: u16, show: Show },
 }

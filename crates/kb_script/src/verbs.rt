@@ -24,6 +24,7 @@ pub enum Verb {
     Fuse,
     Power,
     Folder,
+    Verify,
     Mkdir,
     Mkfile,
     Link,
@@ -64,6 +65,7 @@ pub fn verb_of(word: &str) -> Option<Verb>
         "fuse" => Some(Verb::Fuse),
         "power" => Some(Verb::Power),
         "folder" => Some(Verb::Folder),
+        "verify" => Some(Verb::Verify),
         "mkdir" => Some(Verb::Mkdir),
         "mkfile" => Some(Verb::Mkfile),
         "link" => Some(Verb::Link),
@@ -86,7 +88,6 @@ pub fn is_later_word(live: bool, word: &str) -> bool
     ensures { result ≡ is_later_word live word.now }
 {
     match word {
-        "verify" => true,
         "par" | "caller" | "flusher" | "end" => live,
         _ => false,
     }

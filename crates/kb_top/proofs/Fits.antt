@@ -8,9 +8,9 @@ use Rattle.kb_keys.specs.declared.policy.Role.TheVariants.{Writer, Reader}
 use Rattle.kb_keys.specs.declared.policy.Action.TheVariants as action
 use Rattle.kb_snap.specs.Rekeys.{grant_of}
 use Rattle.kb_script.specs.declared.statements.Statement.{Statement}
-use Rattle.kb_script.specs.declared.statements.Statement.TheVariants.{Seed, Device, Found, Grant, Revoke, At, Open, Pick, Land, Note, Flush, Drain, Pull, Fetch, Settle, Resolve, Status, Fuse, Power, Folder, File, Look}
+use Rattle.kb_script.specs.declared.statements.Statement.TheVariants.{Seed, Device, Found, Grant, Revoke, At, Open, Pick, Land, Note, Flush, Drain, Pull, Fetch, Settle, Resolve, Status, Fuse, Power, Folder, Verify, File, Look}
 use Rattle.kb_script.specs.Fit.{IsFit, AllFitFrom, declared_after, found_after}
-use Rattle.kb_world.specs.Statements.{Reply, Act, Turn, On, SetSeed, Declare, DoFound, DoRekey, SetMoment, See, ListChain}
+use Rattle.kb_world.specs.Statements.{Reply, Act, Turn, On, SetSeed, Declare, DoFound, DoRekey, SetMoment, See, ListChain, AuditChain}
 use Rattle.kb_world.specs.Statements as machine
 use Rattle.kb_world.specs.Machine.{State, ActStep, Progress, Steps, Run, Stage, ToPick, ToLand, ToNote, ToFetch, ToSettle, stage_act, next_after, last_reply}
 use Rattle.kb_world.specs.RunLaws.{IsChange}
@@ -152,6 +152,7 @@ module _ (s t : State) (count : ℕ) (found : Bool) (replies : List Reply) (was 
       (turn_count s t d (machine.Fuse steps) one.reply one.step ∙ was.0, λ no. ap (λ (x : State). x.chain) one.step.state ∙ one.step.step.0 ∙ was.1 no)
   after (Power d pick) fit h = one_turn d machine.Power fit.0 h
   after Folder fit h = let one = once s ListChain replies t h in leaves _ one.step.1 refl refl
+  after Verify fit h = let one = once s AuditChain replies t h in leaves _ one.step.1 refl refl
   after (File d request) fit h = one_turn d (machine.Call request) fit.0 h
   after (Look d show) fit h = let one = once s (See d (machine.Look show)) replies t h in leaves _ one.step.state refl refl
 
@@ -166,6 +167,7 @@ may_do_here names s found (Revoke by d) fit chain name = (fit.1, fit.2)
 may_do_here names s found (At moment) fit chain name = fit
 may_do_here names s found (Fuse d steps) fit chain name = fit
 may_do_here names s found Folder fit chain name = tt
+may_do_here names s found Verify fit chain name = tt
 may_do_here names s found statement fit chain name = fit.1
 
 pub may_do : (names : Names) (s : State) (count : ℕ) (found : Bool) (statement : Statement) → After count found s → IsFit count found statement → NamesNext names count statement → MayDo names s statement
@@ -201,9 +203,11 @@ may_stand count true (Resolve d) fit = fit.1
 may_stand count true (Status d) fit = fit.1
 may_stand count true (Power d pick) fit = (fit.1, tt)
 may_stand count true Folder fit = tt
+may_stand count true Verify fit = tt
 may_stand count true (File d request) fit = (fit.1, tt)
 may_stand count true (Look d show) fit = fit.1
 may_stand count false Folder fit = cc
+may_stand count false Verify fit = cc
 may_stand count false statement fit = (let e = fit.0 in cc)
 
 same_count : (count : ℕ) (statement : Statement) → declared_after count statement ≡ declared_by count (statement_of statement)

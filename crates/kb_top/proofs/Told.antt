@@ -11,7 +11,7 @@ use Rattle.kb_snap.specs.Chains.{Chain}
 use Rattle.kb_device.specs.Answers.{Called, CallFault, LookFault, Status, TellFault, PickFault, Noted, NoteFault, PullFault, FetchFault, SettleFault, OpenFault}
 use Rattle.kb_device.specs.Answers as says
 use Rattle.kb_folder.specs.Chains.{Names}
-use Rattle.kb_world.specs.Statements.{LandFault, Reply, Silent, Off, ByRekey, ByCall, ByLook, ByStatus, ByPick, ByLand, ByNote, ByPull, ByFetch, BySettle, ByOpen, ByBackup, ByRestore, ByPast, ByReclaim, Lists}
+use Rattle.kb_world.specs.Statements.{LandFault, Reply, Silent, Off, ByRekey, ByCall, ByLook, ByStatus, ByPick, ByLand, ByNote, ByPull, ByFetch, BySettle, ByOpen, ByBackup, ByRestore, ByPast, ByReclaim, Lists, Audited}
 use Rattle.kb_world.specs.Statements as statements
 use Rattle.kb_world.specs.Printed.{printed, all_printed, called_line, shown_line, status_line, picked_line, landed_lines, noted_line, pulled_line, fetched_line, settled_lines, opened_line, rekeyed_line, revision_lines}
 use Rattle.kb_top.specs.Summaries.{names_after, names_given, names_told}
@@ -121,6 +121,7 @@ one_reply names d n (ByRestore answer) = refl
 one_reply names d n (ByPast answer) = refl
 one_reply names d n (ByReclaim answer) = refl
 one_reply names d n (Lists c) = listed_none n names 1 c
+one_reply names d n (Audited k) = refl
 
 all_replies : (names : Names) (d n : ℕ) (replies : List Reply) → fold names_told n (all_printed names d replies) ≡ fold names_after n replies
 all_replies names d n [] = refl

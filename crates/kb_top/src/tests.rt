@@ -1,5 +1,6 @@
 //! Whole runs over ends in memory.
 mod apply;
+mod audit;
 mod branches;
 mod chain;
 mod conflicts;

@@ -10,7 +10,7 @@ use Rattle.kb_device.specs.Answers as answers
 use Rattle.kb_device.specs.Journals.{blank}
 use Rattle.kb_device.specs.Parts.{Part, NoteStep}
 use Rattle.kb_device.specs.Meets.{FlightMeets, Flying}
-use Rattle.kb_world.specs.Statements.{Statement, LandFault, Reply, ByPick, ByLand, ByNote, ByFetch, BySettle, Turn, Act, SetSeed, Declare, DoFound, DoRekey, SetMoment, SetRule, See, ListChain, On}
+use Rattle.kb_world.specs.Statements.{Statement, LandFault, Reply, ByPick, ByLand, ByNote, ByFetch, BySettle, Turn, Act, SetSeed, Declare, DoFound, DoRekey, SetMoment, SetRule, See, ListChain, AuditChain, On}
 use Rattle.kb_world.specs.Statements as statements
 use Rattle.kb_world.specs.Machine.{TurnStep, Member, State, new_state, Turns, Landing, PicksFlight, PicksNone, NotesAnswer, NotesNone, ActStep, Progress, Steps, Run, next, next_after, last_reply}
 use Rattle.kb_world.specs.Good.{IsGood}
@@ -51,6 +51,7 @@ module _ (s t : State) where
   act_count (See d view) reply h = ap (λ (x : State). length x.members) h.state
   act_count (On d turn) reply h = turn_count d _ h
   act_count ListChain reply h = ap (λ (x : State). length x.members) h.1
+  act_count AuditChain reply h = ap (λ (x : State). length x.members) h.1
 
   -- ---- which replies come
 
@@ -315,6 +316,7 @@ stated n true (statements.Do (On d turn)) s good after may =
     let m = device_of s n d after.0 may.0 in
     single n true (On d turn) s good (m.0, m.1, asks turn may.1) (λ r t h. counted n t (act_count s t (On d turn) r h ∙ after.0))
 stated n true (statements.Do ListChain) s good after may = single n true ListChain s good tt (λ r t h. counted n t (act_count s t ListChain r h ∙ after.0))
+stated n true (statements.Do AuditChain) s good after may = single n true AuditChain s good tt (λ r t h. counted n t (act_count s t AuditChain r h ∙ after.0))
 stated n true (statements.Flush d) s good after may = of_done n (statements.Flush d) s after.0 refl refl (all_rounds (statements.Flush d) d (flush_rounds d) (queue_at s d) [] s good (device_of s n d after.0 may) (omega arith) refl)
 stated n true (statements.Drain d) s good after may = of_done n (statements.Drain d) s after.0 refl refl (all_rounds (statements.Drain d) d (drain_rounds d) (queue_at s d) [] s good (device_of s n d after.0 may) (omega arith) refl)
 stated n true (statements.Resolve d) s good after may = of_done n (statements.Resolve d) s after.0 refl refl (resolve_done s d good (device_of s n d after.0 may))

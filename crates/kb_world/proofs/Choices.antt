@@ -14,7 +14,7 @@ use Rattle.kb_snap.specs.Answers as folder_says
 use Rattle.kb_snap.specs.Puts.{Ask, PutStep, LostPut}
 use Rattle.kb_device.specs.Journals.{Journal, queued, taken, branched, taken_over, resumed}
 use Rattle.kb_device.specs.Parts.{Merger, Flight, Part, IsOpenAt, closed, ended, plan_at, CallStep, NoteStep, NoteStops, PullStep, SettleStep, OpenStep, merge_ask}
-use Rattle.kb_world.specs.Statements.{Side, Reply, ByCall, ByLand, ByNote, ByPull, BySettle, ByOpen, Act, SetSeed, Declare, DoFound, DoRekey, SetMoment, SetRule, See, ListChain, On}
+use Rattle.kb_world.specs.Statements.{Side, Reply, ByCall, ByLand, ByNote, ByPull, BySettle, ByOpen, Act, SetSeed, Declare, DoFound, DoRekey, SetMoment, SetRule, See, ListChain, AuditChain, On}
 use Rattle.kb_world.specs.Statements as statements
 use Rattle.kb_world.specs.Machine.{merger, cut_off, Settling, LinkAfter, Member, went, State, Turns, Does, PicksFlight, PicksNone, NotesAnswer, NotesNone, Landing, Noting, landed, NoteCause, ActStep}
 use Rattle.kb_device.specs.Waits.{Waiting, Nothing, Answered}
@@ -257,6 +257,7 @@ module _ (s t u : State) (good : IsGood s) (reply : Reply) (halts : is_plain rep
   halted (On d (statements.Restore size)) h k = absurd (never _ refl h.step.2.reply_is)
   halted (On d statements.Open) h k = one_halt d _ (open_halt d) h k
   halted ListChain h k = absurd (never _ refl h.0)
+  halted AuditChain h k = absurd (never _ refl h.0)
 
 pub replies_tell : RepliesTellAll
 replies_tell s act reply t u good ones h k = by (is_plain reply) refl where

@@ -18,7 +18,7 @@ use Rattle.kb_snap.specs.Answers as folder_says
 use Rattle.kb_snap.specs.Puts.{Ask, LostPut}
 use Rattle.kb_device.specs.Journals.{Journal, blank}
 use Rattle.kb_device.specs.Parts.{Flight, Part, CallStep, LookStep, TellStep, PullStep, FetchStep, OpenStep, BackupStep, RestoreStep, armed, powered}
-use Rattle.kb_world.specs.Statements.{Statement, Reply, Silent, Off, ByRekey, ByCall, ByLook, ByStatus, ByPick, ByLand, ByNote, ByPull, ByFetch, BySettle, ByOpen, ByBackup, ByRestore, ByPast, ByReclaim, Lists, Side, AtRequest, AtReply, Act, SetSeed, Declare, DoFound, DoRekey, SetMoment, SetRule, See, ListChain, On}
+use Rattle.kb_world.specs.Statements.{Statement, Reply, Silent, Off, ByRekey, ByCall, ByLook, ByStatus, ByPick, ByLand, ByNote, ByPull, ByFetch, BySettle, ByOpen, ByBackup, ByRestore, ByPast, ByReclaim, Lists, Audited, Side, AtRequest, AtReply, Act, SetSeed, Declare, DoFound, DoRekey, SetMoment, SetRule, See, ListChain, AuditChain, On}
 use Rattle.kb_world.specs.Statements as statements
 use Rattle.kb_world.specs.Machine.{merger, IsBatch, IsDiskSize, lost_side, cut_off, LosesAsk, Settling, new_member, Member, went, State, new_state, Turns, Shows, Does, PicksFlight, PicksNone, NotesAnswer, NotesNone, Picking, Landing, Noting, landed, IsNotAsked, IsNotAnswered, NoteCause, Rekeys, ActStep, Progress, Steps, Run, next}
 use Rattle.kb_snap.specs.PastViews.{PastStep, ReclaimStep}
@@ -481,6 +481,7 @@ module _ (s s' t u : State) (same : disarmed s ≡ disarmed s') where
   one_way (On d statements.Power) reply other good ones more h a k b = one_turn d _ _ (power_turn d) reply other (λ m e. ones (d - 1) m e) (λ m e. more (d - 1) m e) h a k b
   one_way (On d statements.Open) reply other good ones more h a k b = one_turn d _ _ (open_turn d) reply other ones more h a k b
   one_way ListChain reply other good ones more h a k b = (h.0 ∙ ap Lists chain_same ∙ sym k.0, ap disarmed h.1 ∙ same ∙ ap disarmed (sym k.1))
+  one_way AuditChain reply other good ones more h a k b = (h.0 ∙ ap (λ (c : Chain). Audited (length c)) chain_same ∙ sym k.0, ap disarmed h.1 ∙ same ∙ ap disarmed (sym k.1))
 
 pub parts_determined : PartsAreDetermined
 parts_determined s act reply other t u good ones h a k b = one_way s s t u refl act reply other good (good_find s good act ones) (good_find s good act ones) h a k b

@@ -30,6 +30,7 @@ pub mod Recounts
 pub mod Unchanged
 pub mod Borrows
 pub mod WorldChain
+pub mod Wholeness
 pub mod Looked
 pub mod BranchTurns
 pub mod BranchWorlds

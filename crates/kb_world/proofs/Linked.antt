@@ -8,7 +8,7 @@ use Rattle.kb_snap.specs.Chains.{Chain}
 use Rattle.kb_snap.specs.Answers.{PutFault}
 use Rattle.kb_device.specs.Answers.{SettleFault}
 use Rattle.kb_device.specs.Answers as answers
-use Rattle.kb_world.specs.Statements.{Side, Act, SetSeed, Declare, DoFound, DoRekey, SetMoment, SetRule, See, On, ListChain, Statement, Reply, Silent, ByLand, BySettle}
+use Rattle.kb_world.specs.Statements.{Side, Act, SetSeed, Declare, DoFound, DoRekey, SetMoment, SetRule, See, On, ListChain, AuditChain, Statement, Reply, Silent, ByLand, BySettle}
 use Rattle.kb_world.specs.Statements as statements
 use Rattle.kb_world.specs.Machine.{Member, State, new_state, Turns, PicksFlight, PicksNone, NotesAnswer, NotesNone, Picking, landed, LinkAfter, Landing, Noting, ActStep, Progress, Run, Stage, ToPick, ToLand, ToNote, ToFetch, ToSettle, stage_act, flush_stage, drain_stage, resolve_stage, next_after, last_reply, once}
 use Rattle.kb_world.specs.RunLaws.{LosesNot, LosesNone, TellsNoLoss, UnlostRunsOn}
@@ -90,6 +90,7 @@ module _ (s t : State) (all : AllWhole s) where
   act_whole (On d (statements.Restore size)) reply un h = (kept d _ h _ h.step.2.member refl, tells reply _ h.step.2.reply_is tt)
   act_whole (On d statements.Open) reply un h = (kept d _ h _ h.step.1.member refl, tells reply _ h.step.1.reply_is tt)
   act_whole ListChain reply un h = (same_state h.1, tells reply _ h.0 tt)
+  act_whole AuditChain reply un h = (same_state h.1, tells reply _ h.0 tt)
 
 -- a statement that arms no link has no part that does
 once_unlosing : (a act : Act) (before : Option Reply) → LosesNot a → once a before ≡ Some act → LosesNot act

@@ -15,7 +15,7 @@ use Rattle.kb_snap.specs.Lawful.{Follows, IsLawful}
 use Rattle.kb_ops.specs.Grammar.{IsProper}
 use Rattle.kb_log.specs.LogList.{area_size}
 use Rattle.kb_device.specs.Meets.{NoneOf, Meets, FitsArea, held}
-use Rattle.kb_world.specs.Statements.{Statement, Reply, Act, SetSeed, Declare, DoFound, DoRekey, SetMoment, SetRule, See, ListChain, On}
+use Rattle.kb_world.specs.Statements.{Statement, Reply, Act, SetSeed, Declare, DoFound, DoRekey, SetMoment, SetRule, See, ListChain, AuditChain, On}
 use Rattle.kb_world.specs.Statements as statements
 use Rattle.kb_world.specs.Machine.{most_devices, merger, IsBatch, new_member, Member, State, new_state, Turns, PicksFlight, PicksNone, NotesAnswer, NotesNone, Picking, Landing, Noting, Rekeys, Founds, ActStep, Progress, Steps, Lacks, Ends, Run, next}
 use Rattle.kb_snap.specs.Rekeys.{RekeyStep}
@@ -308,6 +308,7 @@ module _ (s t : State) (good : IsGood s) where
   act_keeps (On d statements.Open) reply h = goes_on d _ h h.step.0 _ h.step.1.member refl (λ b. b)
       (λ old. open_keeps d s.chain h.was.name h.was.part h.was.waiting (to_stands d s.chain h.was old) h.step.1.answer h.step.1.part h.step.1.step (closed_waiting d s.chain h.was.name h.was.part h.was.waiting old.waiting))
   act_keeps ListChain reply h = subst IsGood (sym h.1) good
+  act_keeps AuditChain reply h = subst IsGood (sym h.1) good
 
 -- ---- statements and runs
 

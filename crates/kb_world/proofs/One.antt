@@ -9,7 +9,7 @@ use Rattle.kb_device.specs.Answers.{Called, CallFault, PickFault, Noted, NoteFau
 use Rattle.kb_snap.specs.Answers.{PutFault}
 use Rattle.kb_device.specs.Answers as answers
 use Rattle.kb_device.specs.Parts.{Merger, Part, CallStep, PickStep, NoteStep, PullStep, FetchStep, SettleStep, OpenStep, BackupStep, RestoreStep}
-use Rattle.kb_world.specs.Statements.{Statement, Reply, ByCall, ByNote, ByPull, BySettle, ByOpen, Act, SetSeed, Declare, DoFound, DoRekey, SetMoment, SetRule, See, ListChain, On}
+use Rattle.kb_world.specs.Statements.{Statement, Reply, ByCall, ByNote, ByPull, BySettle, ByOpen, Act, SetSeed, Declare, DoFound, DoRekey, SetMoment, SetRule, See, ListChain, AuditChain, On}
 use Rattle.kb_world.specs.Statements as statements
 use Rattle.kb_world.specs.Machine.{merger, Member, State, new_state, Turns, PicksFlight, PicksNone, NotesAnswer, NotesNone, Picking, Landing, Noting, ActStep, Progress, Steps, Run}
 use Rattle.kb_world.specs.RunLaws.{IsPlain}
@@ -145,6 +145,7 @@ module _ (s t : State) (all : HaveOne s) where
   act_one (On d statements.Open) reply h plain =
       turned d _ h (one_of h.is _ h.step.1.member (open_one h.was.part (was_one d _ h) d s.chain h.step.1.answer h.step.1.part h.step.1.step (subst IsPlain h.step.1.reply_is plain)))
   act_one ListChain reply h plain = subst HaveOne (sym h.1) all
+  act_one AuditChain reply h plain = subst HaveOne (sym h.1) all
 
 progress_one : (statement : Statement) (before : List Reply) (s : State) (replies : List Reply) (t : State) → Progress statement before s replies t → All IsPlain replies → HaveOne s → HaveOne t
 progress_one statement before s [] t h plain all = subst HaveOne (sym h) all

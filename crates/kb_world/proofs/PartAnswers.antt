@@ -26,7 +26,7 @@ use Rattle.kb_snap.specs.Puts.{Ask, PutStep, LostPut}
 use Rattle.kb_device.specs.Journals.{Journal, last_seq, resumed, returned}
 use Rattle.kb_device.specs.Parts.{Merger, Flight, Part, IsOpenAt, plan_at, shown_at, status_of, CallStep, LookStep, TellStep, PickStep, NoteStep, PullStep, FetchStep, SettleStep, OpenStep, BackupStep, RestoreStep, HasShelved, last_acknowledged, merge_ask, report_at, flight_of, ask_of, closed, armed, powered}
 use Rattle.kb_device.specs.Meets.{PartMeets, PutMeets}
-use Rattle.kb_world.specs.Statements.{Act, SetSeed, Declare, DoFound, DoRekey, SetMoment, SetRule, See, ListChain, On, Side, AtRequest, AtReply, Reply, Silent, Off, ByRekey, ByCall, ByLook, ByStatus, ByPick, ByLand, ByNote, ByPull, ByFetch, BySettle, ByOpen, ByBackup, ByRestore, ByPast, ByReclaim, Lists}
+use Rattle.kb_world.specs.Statements.{Act, SetSeed, Declare, DoFound, DoRekey, SetMoment, SetRule, See, ListChain, AuditChain, On, Side, AtRequest, AtReply, Reply, Silent, Off, ByRekey, ByCall, ByLook, ByStatus, ByPick, ByLand, ByNote, ByPull, ByFetch, BySettle, ByOpen, ByBackup, ByRestore, ByPast, ByReclaim, Lists, Audited}
 use Rattle.kb_world.specs.Machine.{merger, IsBatch, IsDiskSize, Member, went, State, Turns, Does, Picking, lost_side, cut_off, Landing, Noting, LinkAfter, Settling, landed, IsNotAsked, IsNotAnswered, NoteCause, ActStep}
 use Rattle.kb_device.specs.Waits.{Waiting, Nothing, Asked, Answered, WaitingMeets}
 use Rattle.kb_snap.specs.Rekeys.{RekeyStep}
@@ -507,6 +507,7 @@ module _ (s : State) (good : IsGood s) where
       let to = goes d m (went m a.1) s.chain (λ was is c. (c ≡ s.chain) × Does (OpenStep d s.chain was.part) ByOpen (ByOpen a.0) was is) ask.1 (refl, record { answer = a.0; part = a.1; step = a.2; reply_is = refl; member = refl }) in
       (ByOpen a.0, to.0, to.1, a.3)
   part_answers ListChain ask = (Lists s.chain, s, (refl, refl), refl)
+  part_answers AuditChain ask = (Audited (length s.chain), s, (refl, refl), refl)
 
 pub parts_answer : PartsAnswer
 parts_answer s act good ask = part_answers s good act ask

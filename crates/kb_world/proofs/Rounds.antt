@@ -12,7 +12,7 @@ use Rattle.kb_device.specs.Answers.{Noted, NoteFault, PickFault}
 use Rattle.kb_snap.specs.Chains.{Chain}
 use Rattle.kb_snap.specs.Puts.{Ask, PutStep}
 use Rattle.kb_device.specs.Parts.{Part, NoteStep}
-use Rattle.kb_world.specs.Statements.{Statement, Reply, Silent, Off, ByRekey, ByCall, ByLook, ByStatus, ByPick, ByLand, ByNote, ByPull, ByFetch, BySettle, ByOpen, ByBackup, ByRestore, ByPast, ByReclaim, Lists, Act, On, Do}
+use Rattle.kb_world.specs.Statements.{Statement, Reply, Silent, Off, ByRekey, ByCall, ByLook, ByStatus, ByPick, ByLand, ByNote, ByPull, ByFetch, BySettle, ByOpen, ByBackup, ByRestore, ByPast, ByReclaim, Lists, Audited, Act, On, Do}
 use Rattle.kb_world.specs.Statements as statements
 use Rattle.kb_world.specs.Machine.{Member, State, ActStep, Progress, Steps, Lacks, Ends, Stage, ToPick, ToLand, ToNote, stage_act, flush_stage, drain_stage, next, next_after, last_reply, PicksFlight, PicksNone, IsNotAsked, PutsAsk, PutsNone, NotesAnswer, NotesNone}
 use Rattle.kb_device.specs.Waits.{Asked, Answered}
@@ -171,6 +171,7 @@ next_same d (Some (ByRestore a)) act e = e
 next_same d (Some (ByPast a)) act e = e
 next_same d (Some (ByReclaim a)) act e = e
 next_same d (Some (Lists a)) act e = e
+next_same d (Some (Audited a)) act e = e
 
 last_behind : (before : List Reply) (x : Reply) (xs : List Reply) → last_reply (before ++ x ∷ xs) ≡ last_reply (x ∷ xs)
 last_behind [] x xs = refl

@@ -12,7 +12,7 @@ use Rattle.kb_snap.specs.Answers.{PutFault}
 use Rattle.kb_device.specs.Answers as answers
 use Rattle.kb_snap.specs.Answers as folder_says
 use Rattle.kb_device.specs.Parts.{Merger, Part, CallStep, PickStep, NoteStep, NoteStops, PullStep, FetchStep, SettleStep, OpenStep, BackupStep, RestoreStep}
-use Rattle.kb_world.specs.Statements.{Statement, Reply, Silent, Off, ByRekey, ByCall, ByLook, ByStatus, ByPick, ByLand, ByNote, ByPull, ByFetch, BySettle, ByOpen, Lists, Act, SetSeed, Declare, DoFound, DoRekey, SetMoment, SetRule, See, ListChain, On}
+use Rattle.kb_world.specs.Statements.{Statement, Reply, Silent, Off, ByRekey, ByCall, ByLook, ByStatus, ByPick, ByLand, ByNote, ByPull, ByFetch, BySettle, ByOpen, Lists, Act, SetSeed, Declare, DoFound, DoRekey, SetMoment, SetRule, See, ListChain, AuditChain, On}
 use Rattle.kb_world.specs.Statements as statements
 use Rattle.kb_world.specs.Machine.{merger, Member, State, new_state, Turns, PicksFlight, PicksNone, NotesAnswer, NotesNone, Picking, Landing, Noting, NoteCause, ActStep, Progress, Run, next_after, last_reply, once, Stage, ToPick, ToLand, ToNote, ToFetch, ToSettle, stage_act, flush_stage, drain_stage, resolve_stage}
 use Rattle.kb_world.specs.RunLaws.{ArmsNot, ArmsNone, TellsNoStop, UnfusedRunsOn}
@@ -201,6 +201,7 @@ module _ (s t : State) (all : AllWhole s) where
       let to = open_whole h.was.part (was_whole d _ h) d s.chain h.step.1.answer h.step.1.part h.step.1.step in
       (turned d _ h (whole_of h.is _ h.step.1.member to.0), tells reply _ h.step.1.reply_is to.1)
   act_whole ListChain reply un h = (same_state h.1, tells reply _ h.0 tt)
+  act_whole AuditChain reply un h = (same_state h.1, tells reply _ h.0 tt)
 
 -- a statement that is no fuse has no part that arms
 once_unarmed : (a act : Act) (before : Option Reply) → ArmsNot a → once a before ≡ Some act → ArmsNot act

@@ -31,6 +31,7 @@ MayDo names s (said.Grant by d role) = IsOneOf (length s.members) by × IsOneOf 
 MayDo names s (said.Revoke by d) = IsOneOf (length s.members) by × IsOneOf (length s.members) d
 MayDo names s (said.At moment) = moment ≤ last_second
 MayDo names s said.Folder = Unit {0}
+MayDo names s said.Verify = Unit {0}
 MayDo names s statement = IsOneOf (length s.members) (device_of statement)
 
 -- one part gives a reply that is printed so, of which this is so

@@ -15,7 +15,7 @@ use Rattle.kb_snap.specs.Puts.{Ask, PutStep, LostPut}
 use Rattle.kb_device.specs.Answers.{LookFault, Status, TellFault, Noted, NoteFault, SettleFault}
 use Rattle.kb_device.specs.Answers as answers
 use Rattle.kb_device.specs.Parts.{Merger, Part, Flight, new_part, closed, CallStep, LookStep, TellStep, PickStep, NoteStep, PullStep, FetchStep, SettleStep, OpenStep, BackupStep, RestoreStep, Lowered, armed, powered}
-use Rattle.kb_world.specs.Statements.{View, Side, AtRequest, AtReply, Turn, Act, SetSeed, Declare, DoFound, DoRekey, SetMoment, SetRule, See, On, ListChain, Statement, LandFault, Reply, Silent, Off, ByRekey, ByCall, ByLook, ByStatus, ByPick, ByLand, ByNote, ByPull, ByFetch, BySettle, ByOpen, ByBackup, ByRestore, ByPast, ByReclaim, Lists}
+use Rattle.kb_world.specs.Statements.{View, Side, AtRequest, AtReply, Turn, Act, SetSeed, Declare, DoFound, DoRekey, SetMoment, SetRule, See, On, ListChain, AuditChain, Statement, LandFault, Reply, Silent, Off, ByRekey, ByCall, ByLook, ByStatus, ByPick, ByLand, ByNote, ByPull, ByFetch, BySettle, ByOpen, ByBackup, ByRestore, ByPast, ByReclaim, Lists, Audited}
 use Rattle.kb_world.specs.Statements as statements
 use Rattle.kb_snap.specs.PastViews.{PastStep, ReclaimStep}
 use Rattle.kb_device.specs.Waits.{Answered, Asked, Nothing, Waiting, waiting_if}
@@ -328,6 +328,7 @@ ActStep s (DoRekey by action who) reply t = Rekeys by action who reply s t
 ActStep s (See d view) reply t = Shows d (λ m. ViewStep s d view m reply) s t
 ActStep s (On d turn) reply t = Turns d (TurnStep s d turn reply) s t
 ActStep s ListChain reply t = (reply ≡ Lists s.chain) × (t ≡ s)
+ActStep s AuditChain reply t = (reply ≡ Audited (length s.chain)) × (t ≡ s)
 
 -- the next parts of a statement may give these replies
 abbrev pub Progress : Statement → List Reply → State → List Reply → State → Type 0

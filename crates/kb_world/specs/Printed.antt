@@ -22,7 +22,7 @@ use Rattle.kb_device.specs.Answers as says
 use Rattle.kb_snap.specs.Answers as folder_says
 use Rattle.kb_snap.specs.Chains.{Deed, Founded, Stepped, Merged, Rekeyed, Revision, Chain, seq_of_last}
 use Rattle.kb_snap.specs.Members.{generation_of}
-use Rattle.kb_world.specs.Statements.{LandFault, Reply, Silent, Off, ByRekey, ByCall, ByLook, ByStatus, ByPick, ByLand, ByNote, ByPull, ByFetch, BySettle, ByOpen, Lists}
+use Rattle.kb_world.specs.Statements.{LandFault, Reply, Silent, Off, ByRekey, ByCall, ByLook, ByStatus, ByPick, ByLand, ByNote, ByPull, ByFetch, BySettle, ByOpen, Lists, Audited}
 use Rattle.kb_world.specs.Statements as statements
 use Rattle.kb_folder.specs.Chains.{Names}
 
@@ -181,6 +181,7 @@ printed names d (ByFetch answer) = fetched_line (names d) answer ∷ []
 printed names d (BySettle answer) = settled_lines (names d) answer
 printed names d (ByOpen answer) = opened_line (names d) answer ∷ []
 printed names d (Lists c) = line.Chain (length c) (generation_of c) ∷ revision_lines names 1 c
+printed names d (Audited n) = line.Whole n ∷ []
 printed names d reply = []
 
 -- the replies of a statement, one behind another

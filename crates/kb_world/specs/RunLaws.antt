@@ -16,7 +16,7 @@ use Rattle.kb_device.specs.Parts.{IsOpenAt, tree_shown, last_acknowledged}
 use Rattle.kb_snap.specs.Lawful.{IsRule}
 use Rattle.kb_device.specs.Foreign.{IsForeign}
 use Rattle.kb_device.specs.Owned.{IsOwned}
-use Rattle.kb_world.specs.Statements.{Turn, Statement, Reply, ByCall, ByLand, ByNote, ByPull, BySettle, ByOpen, Act, SetSeed, Declare, DoFound, DoRekey, SetMoment, SetRule, See, ListChain, On}
+use Rattle.kb_world.specs.Statements.{Turn, Statement, Reply, ByCall, ByLand, ByNote, ByPull, BySettle, ByOpen, Act, SetSeed, Declare, DoFound, DoRekey, SetMoment, SetRule, See, ListChain, AuditChain, On}
 use Rattle.kb_world.specs.Statements as statements
 use Rattle.kb_world.specs.Machine.{most_devices, IsDiskSize, IsBatch, Member, State, new_state, ActStep, Run}
 use Rattle.kb_world.specs.Good.{IsGood}
@@ -176,6 +176,7 @@ IsAsked s (SetRule rule) = IsRule rule
 IsAsked s (See d view) = (m : Member) × IsDevice s d m
 IsAsked s (On d turn) = (m : Member) × IsDevice s d m × TurnAsks turn
 IsAsked s ListChain = Unit {0}
+IsAsked s AuditChain = Unit {0}
 
 -- each part has an answer in every state that a run comes to, and one that tells of no stop and of no collision
 abbrev pub PartsAnswer : Type 0

@@ -8,7 +8,7 @@ use Rattle.kb_snap.specs.Chains.{Chain, tree_at}
 use Rattle.kb_snap.specs.Lawful.{IsRule, AreFew}
 use Rattle.kb_device.specs.Journals.{Journal}
 use Rattle.kb_device.specs.Parts.{Part, IsOpenAt, OpenStep, tree_shown}
-use Rattle.kb_world.specs.Statements.{Statement, Reply, Turn, Act, SetSeed, Declare, DoFound, DoRekey, SetMoment, SetRule, See, On, ListChain}
+use Rattle.kb_world.specs.Statements.{Statement, Reply, Turn, Act, SetSeed, Declare, DoFound, DoRekey, SetMoment, SetRule, See, On, ListChain, AuditChain}
 use Rattle.kb_world.specs.Statements as statements
 use Rattle.kb_world.specs.Machine.{most_devices, IsDiskSize, IsBatch, Member, State, new_state, ActStep, Progress, Steps, Run}
 use Rattle.kb_world.specs.Good.{IsGood}
@@ -142,6 +142,7 @@ MayStand n true (statements.Do (See d view)) = IsOneOf n d
 MayStand n false (statements.Do (On d turn)) = IsOneOf n d × IsEarly turn × IsInRange turn
 MayStand n true (statements.Do (On d turn)) = IsOneOf n d × IsInRange turn
 MayStand n true (statements.Do ListChain) = Unit {0}
+MayStand n true (statements.Do AuditChain) = Unit {0}
 MayStand n true (statements.Flush d) = IsOneOf n d
 MayStand n true (statements.Drain d) = IsOneOf n d
 MayStand n true (statements.Resolve d) = IsOneOf n d

@@ -4,7 +4,7 @@ use Rattle.kb_keys.specs.declared.policy.Action.TheVariants as action
 use Rattle.kb_snap.specs.Rekeys.{grant_of}
 use Rattle.kb_script.specs.declared.statements.Statement as script
 use Rattle.kb_script.specs.declared.statements.Statement.TheVariants as said
-use Rattle.kb_world.specs.Statements.{Statement, SetSeed, Declare, DoFound, DoRekey, SetMoment, See, On, ListChain, Do}
+use Rattle.kb_world.specs.Statements.{Statement, SetSeed, Declare, DoFound, DoRekey, SetMoment, See, On, ListChain, AuditChain, Do}
 use Rattle.kb_world.specs.Statements as statements
 
 abbrev pub statement_of : script.Statement → Statement
@@ -28,6 +28,7 @@ statement_of (said.Status d) = Do (See d statements.Tell)
 statement_of (said.Fuse d steps) = Do (On d (statements.Fuse steps))
 statement_of (said.Power d pick) = Do (On d statements.Power)
 statement_of said.Folder = Do ListChain
+statement_of said.Verify = Do AuditChain
 statement_of (said.File d request) = Do (On d (statements.Call request))
 statement_of (said.Look d show) = Do (See d (statements.Look show))
 
@@ -53,5 +54,6 @@ device_of (said.Status d) = d
 device_of (said.Fuse d steps) = d
 device_of (said.Power d pick) = d
 device_of said.Folder = 0
+device_of said.Verify = 0
 device_of (said.File d request) = d
 device_of (said.Look d show) = d

@@ -50,6 +50,7 @@ pub data Act : Type 0 where
   See : ℕ → View → Act
   On : ℕ → Turn → Act
   ListChain : Act
+  AuditChain : Act
 
 -- a statement has one part, or parts that follow from the replies
 pub data Statement : Type 0 where
@@ -86,3 +87,4 @@ pub data Reply : Type 0 where
   ByPast : Result Tree PastFault → Reply
   ByReclaim : Result (Unit {0}) ReclaimFault → Reply
   Lists : Chain → Reply
+  Audited : ℕ → Reply

@@ -1,6 +1,7 @@
 //! The folder and its devices, moved by the statements of a script.
 #![tactic(auto)]
 
+mod auditing;
 mod branches;
 mod declared;
 mod listing;

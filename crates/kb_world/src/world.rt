@@ -13,6 +13,7 @@ ghost use Rattle.kb_world.specs.Doing.{is_picked, is_noted};
 ghost use Rattle.kb_world.specs.Branching.{is_fetched};
 ghost use Rattle.kb_world.specs.Printed.{printed};
 
+use crate::auditing::whole_line;
 use crate::declared::{Declared, Waiting};
 use crate::listing::chain_lines;
 use crate::replies::{
@@ -379,6 +380,15 @@ impl<M: DiskMaker> World<M> {
         chain_lines(self.alloc, &self.folder, &self.devices)
     }
 
+    // Audits the folder.
+    fn verify(&self) -> Result<Line, Memory>
+        requires { IsStanding self.now }
+        ensures { IfOk result (λ line. (names : Names) (s : State) → WorldStands names self.now s → Tells names 0 s statements.AuditChain line (λ reply. Unit {0}) s) }
+    {
+        let secrets = Secrets::new(self.seed);
+        whole_line(self.alloc, &self.folder, &self.devices, &secrets)
+    }
+
     // Shows what a device sees.
     fn look(&self, number: u16, show: &Show) -> Result<Line, Memory>
         requires { IsOneOf (device_count self.now) number }
@@ -560,6 +570,10 @@ impl<M: DiskMaker> World<M> {
                 Ok(one_line(room, line))
             }
             Statement::Folder => self.list(),
+            Statement::Verify => {
+                let line = self.verify()?;
+                Ok(one_line(room, line))
+            }
             Statement::File { device, request } => {
                 let line = self.call(*device, request)?;
                 Ok(one_line(room, line))

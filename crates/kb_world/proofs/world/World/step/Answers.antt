@@ -380,3 +380,21 @@ returns-in-Folder-clause-step g c = folder_does c.args.self.now c.args.statement
 
 pub returns-in-Folder-clause-memory : goal.returns-in-Folder-clause-memory
 returns-in-Folder-clause-memory g c = folder_ends c.args.self.now c.args.statement.now c.list.result
+
+pub verify-requires : goal.verify-requires
+verify-requires g c = stands_then c.args.self.now c.args.statement.now said.Verify c.in-Verify.is c.requires
+
+pub returns-in_err-line-in-Verify-clause-step : goal.returns-in_err-line-in-Verify-clause-step
+returns-in_err-line-in-Verify-clause-step g c = search rules
+
+pub returns-in_err-line-in-Verify-clause-memory : goal.returns-in_err-line-in-Verify-clause-memory
+returns-in_err-line-in-Verify-clause-memory g c = on_err c.from_residual-in_err-line-in-Verify.result (still c.args.self.now c.args.statement.now)
+
+pub one_line-requires-in-Verify-clause-empty : goal.one_line-requires-in-Verify-clause-empty
+one_line-requires-in-Verify-clause-empty g c = c.in_ok-room.ensures.empty
+
+pub one_line-requires-in-Verify-clause-room : goal.one_line-requires-in-Verify-clause-room
+one_line-requires-in-Verify-clause-room g c = c.in_ok-room.ensures.room
+
+pub returns-in_ok-line-in-Verify-clause-step : goal.returns-in_ok-line-in-Verify-clause-step
+returns-in_ok-line-in-Verify-clause-step g c = one_part c.args.self.now c.args.self.now c.args.statement.now said.Verify c.in-Verify.is 0 statements.AuditChain (λ reply. Unit {0}) c.in_ok-line-in-Verify.line c.one_line-in-Verify.result.items refl refl c.one_line-in-Verify.ensures (λ names s h may. (s, c.in_ok-line-in-Verify.ensures names s h, h))
