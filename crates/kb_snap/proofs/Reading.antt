@@ -23,7 +23,7 @@ use Rattle.kb_dirs.specs.declared.entries.Entry.{Entry}
 use Rattle.kb_dirs.specs.Dirs.{HoldsDir, IsEntry, is_plain}
 use Rattle.kb_dirs.proofs.Once.{one_dir}
 use Rattle.kb_snap.specs.declared.loading.Waiting.{Waiting}
-use Rattle.kb_snap.specs.Holds.{IsOneOf, IsEntryOf, IsChild, Holds, HoldsKind, HoldsTree}
+use Rattle.kb_snap.specs.Holds.{IsOneOf, IsEntryOf, IsChild, Holds, HoldsKind, HoldsEach, HoldsTree}
 use Rattle.kb_snap.specs.Pointers.{Kept, AllHold}
 use Rattle.kb_snap.specs.Reads.{waits, stacked, row_of}
 use Rattle.kb_snap.proofs.Among.{one_front, one_back, one_split, all_one}
@@ -312,6 +312,23 @@ module _ (vault : Vault) (one : IsSingle vault) (top : Ptr) (mtime : ℕ) (t : T
 
 -- ---- all is read
 
+-- a row's own block
+row_read : (vault : Vault) (top : Ptr) (mtime : ℕ) (t : Tree) (at : Kept) (ws : List Waiting) → ws ≡ [] → IsReading vault top mtime t at ws → (k : Kind) (r : Row) (p : Ptr) → SoFar vault (look t) (get at) ws k r p → HoldsKind vault (look t) (get at) k r p
+row_read vault top mtime t at ws none so Dir r p x =
+    let reads = λ (e : Entry) (h : IsOneOf e x.0). read e (x.1.1.0 e h) in
+    (x.0, (x.1.0, (record { each = λ e h. (reads e h).child; all = λ q s is off up. let y = x.1.1.1 q s is off up in (y.entry, (y.among, y.fields.id ∙ so.formed.keyed q s is)) }, λ e h. (reads e h).pointed)))
+  where
+    read : (e : Entry) → IsRead (look t) (get at) r.id e ⊎ IsAwaited r.id e ws → IsRead (look t) (get at) r.id e
+    read e h = elim h [ inl y ↦ y | inr y ↦ absurd (subst (IsOneOf y.0) none y.1.0) ]
+row_read vault top mtime t at ws none so File r p x = x
+row_read vault top mtime t at ws none so Link r p x = x
+
+pub each_read : (vault : Vault) (top : Ptr) (mtime : ℕ) (t : Tree) (at : Kept) (ws : List Waiting) → ws ≡ [] → IsReading vault top mtime t at ws → HoldsEach vault (look t) top (get at)
+each_read vault top mtime t at ws none so = record {
+  top = so.first;
+  each = λ k s there. let h = so.each k s there in (h.0, (h.1.0, row_read vault top mtime t at ws none so s.kind s h.0 h.1.1));
+}
+
 pub all_read : (vault : Vault) (top : Ptr) (mtime : ℕ) (t : Tree) (at : Kept) (ws : List Waiting) → ws ≡ [] → IsReading vault top mtime t at ws → HoldsTree vault top mtime t × AllHold vault (look t) at
 all_read vault top mtime t at ws none so =
     let r = some_and _ (look t root) so.formed.rooted in (
@@ -322,15 +339,5 @@ all_read vault top mtime t at ws none so =
       ],
     )
   where
-    done : (k : Kind) (r : Row) (p : Ptr) → SoFar vault (look t) (get at) ws k r p → HoldsKind vault (look t) (get at) k r p
-    done Dir r p x =
-        let reads = λ (e : Entry) (h : IsOneOf e x.0). read e (x.1.1.0 e h) in
-        (x.0, (x.1.0, (record { each = λ e h. (reads e h).child; all = λ q s is off up. let y = x.1.1.1 q s is off up in (y.entry, (y.among, y.fields.id ∙ so.formed.keyed q s is)) }, λ e h. (reads e h).pointed)))
-      where
-        read : (e : Entry) → IsRead (look t) (get at) r.id e ⊎ IsAwaited r.id e ws → IsRead (look t) (get at) r.id e
-        read e h = elim h [ inl y ↦ y | inr y ↦ absurd (subst (IsOneOf y.0) none y.1.0) ]
-    done File r p x = x
-    done Link r p x = x
-
     holds : (q : NodeId) (p : Ptr) (r : Row) → look t q ≡ Some r → get at q ≡ Some p → Holds vault (look t) q p
-    holds q p r is has = each_holds vault t so.formed (get at) (λ k s there. let h = so.each k s there in (h.0, (h.1.0, done s.kind s h.0 h.1.1))) q r p is has
+    holds q p r is has = each_holds vault t so.formed (get at) (each_read vault top mtime t at ws none so).each q r p is has

@@ -29,13 +29,13 @@ use Rattle.kb_dirs.specs.declared.entries.Entry.{Entry}
 use Rattle.kb_dirs.specs.Dirs.{HoldsDir, dir_text}
 use Rattle.kb_dirs.proofs.Once.{one_dir}
 use Rattle.kb_snap.specs.declared.loading.Waiting.{Waiting}
-use Rattle.kb_snap.specs.Holds.{IsOneOf, HoldsTree}
+use Rattle.kb_snap.specs.Holds.{IsOneOf, HoldsTree, HoldsEach}
 use Rattle.kb_snap.specs.Pointers.{Kept, AllHold}
 use Rattle.kb_snap.specs.Reads.{waits, stacked, row_of, root_of, FoundKind, RefusedKind, Reached, StopsFirst}
 use Rattle.kb_snap.specs.Reads.Reached.{opened, onward}
 use Rattle.kb_snap.proofs.Among.{one_back, all_one, one_all, all_append, all_front}
 use Rattle.kb_snap.proofs.HeldRows.{some_is, same_row, as_dir}
-use Rattle.kb_snap.proofs.Reading.{IsReading, SoFar, read_file, read_dir, all_read}
+use Rattle.kb_snap.proofs.Reading.{IsReading, SoFar, read_file, read_dir, each_read, all_read}
 use Rattle.kb_snap.proofs.Agreeing.{Agrees, agrees_first, agrees_file, agrees_dir, is_file_there, is_dir_there, never_read}
 use Rattle.kb_snap.proofs.Sealing.{set_here, set_other}
 use Rattle.kb_snap.proofs.Stacks.{of_stacked, in_stacked}
@@ -226,6 +226,9 @@ module _ (sealed : List ℕ → List ℕ → List ℕ) (hashed : List ℕ → Li
 
   pub turn_end : (t : Tree) (at : Kept) (ws : List Waiting) → ws ≡ [] → IsTurn t at ws → HoldsTree vault top m t × AllHold vault (look t) at
   turn_end t at ws none so = all_read vault top m t at ws none so.reading
+
+  pub turn_each : (t : Tree) (at : Kept) (ws : List Waiting) → ws ≡ [] → IsTurn t at ws → HoldsEach vault (look t) top (get at)
+  turn_each t at ws none so = each_read vault top m t at ws none so.reading
 
   pub turn_all : (t : Tree) (at : Kept) (ws : List Waiting) → IsTurn t at ws → (q : NodeId) → is_some (get at q) ≡ is_some (look t q)
   turn_all t at ws so q = by (get at q) refl (look t q) refl

@@ -6,7 +6,7 @@ ghost use Rattle.kb_name.specs.Nodes.{root as root_id};
 ghost use Rattle.kb_ops.specs.Trees.{look};
 ghost use Rattle.kb_keys.specs.Rings.{key_at};
 ghost use Rattle.kb_files.specs.Opens.{Opens, Reads};
-ghost use Rattle.kb_snap.specs.Holds.{HoldsTree};
+ghost use Rattle.kb_snap.specs.Holds.{HoldsTree, HoldsEach};
 ghost use Rattle.kb_snap.specs.Pointers.{AllHold};
 ghost use Rattle.kb_snap.specs.Reads.{stacked, row_of, root_of, ReadsDir, ReadsBytes, StopsFirst};
 
@@ -146,6 +146,7 @@ pub fn load<S: Sealer, H: BlockHash>(
     ensures reads { Reads (map.get store.now) (λ made. made.0.tree) (HoldsTree (Opens S.sealed H.hashed (map.get store.now) (key_at keys.now)) root mtime) result }
     ensures first { IfErr result (StopsFirst (Opens S.sealed H.hashed (map.get store.now) (key_at keys.now)) (map.get store.now) root mtime) }
     ensures pointers { IfOk result (λ made. AllHold (Opens S.sealed H.hashed (map.get store.now) (key_at keys.now)) (look made.0.tree) made.1) }
+    ensures each { IfOk result (λ made. HoldsEach (Opens S.sealed H.hashed (map.get store.now) (key_at keys.now)) (look made.0.tree) root (map.get made.1)) }
     ensures all { IfOk result (λ made. (q : NodeId) → is_some (map.get made.1 q) ≡ is_some (look made.0.tree q)) }
     ensures top { IfOk result (λ made. map.get made.1 root_id ≡ Some root) }
 {

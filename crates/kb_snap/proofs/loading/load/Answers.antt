@@ -5,11 +5,11 @@ use Rattle.kb_files.specs.Opens.{Opens}
 use Rattle.kb_name.specs.Nodes.{root}
 use Rattle.kb_ops.specs.Trees.{Tree, look}
 use Rattle.kb_ops.specs.declared.rows.Row.{Row}
-use Rattle.kb_snap.specs.Holds.{HoldsTree}
+use Rattle.kb_snap.specs.Holds.{HoldsTree, HoldsEach}
 use Rattle.kb_snap.specs.Pointers.{AllHold}
 use Rattle.kb_snap.specs.Reads.{stacked, row_of}
 use Rattle.kb_snap.proofs.Sealing.{emptied}
-use Rattle.kb_snap.proofs.Turns.{IsTurn, turn_first, first_refused, twice, refused, turn_more, stops_root, stops_twice, stops_refused, turn_end, turn_all, counted, none_of}
+use Rattle.kb_snap.proofs.Turns.{IsTurn, turn_first, first_refused, twice, refused, turn_more, stops_root, stops_twice, stops_refused, turn_end, turn_each, turn_all, counted, none_of}
 use Rattle.kb_snap.proofs.loading.load.Goals as goal
 
 pub returns-in-Err-clause-reads : goal.returns-in-Err-clause-reads
@@ -64,6 +64,12 @@ returns-in-Ok-into_table-clause-pointers g c =
     let none = emptied _ c.pop.result c.entries.waiting.items _ _ c.in_default.not-Some c.pop.ensures.cases c.entries.waiting.ok.0 in
     let all = turn_end g.S.Sealer.sealed g.H.BlockHash.hashed g.met.S.Sealer.one_plain (map.get c.args.store.now) (key_at c.args.keys.now) c.args.root c.args.mtime c.entries.rows c.entries.pointers c.entries.waiting.items none c.entries.invariant in
     subst (λ (t : Tree). AllHold (Opens g.S.Sealer.sealed g.H.BlockHash.hashed (map.get c.args.store.now) (key_at c.args.keys.now)) (look t) c.entries.pointers) (sym c.in-Ok-into_table.ensures) all.1
+
+pub returns-in-Ok-into_table-clause-each : goal.returns-in-Ok-into_table-clause-each
+returns-in-Ok-into_table-clause-each g c =
+    let none = emptied _ c.pop.result c.entries.waiting.items _ _ c.in_default.not-Some c.pop.ensures.cases c.entries.waiting.ok.0 in
+    let all = turn_each g.S.Sealer.sealed g.H.BlockHash.hashed g.met.S.Sealer.one_plain (map.get c.args.store.now) (key_at c.args.keys.now) c.args.root c.args.mtime c.entries.rows c.entries.pointers c.entries.waiting.items none c.entries.invariant in
+    subst (λ (t : Tree). HoldsEach (Opens g.S.Sealer.sealed g.H.BlockHash.hashed (map.get c.args.store.now) (key_at c.args.keys.now)) (look t) c.args.root (map.get c.entries.pointers)) (sym c.in-Ok-into_table.ensures) all
 
 pub returns-in-Ok-into_table-clause-all : goal.returns-in-Ok-into_table-clause-all
 returns-in-Ok-into_table-clause-all g c q =
