@@ -62,3 +62,7 @@ pub mod MergedPointers
 pub mod ShortParts
 pub mod PartLaws
 pub mod Resolvings
+pub mod Shared
+pub mod Patched
+pub mod Copied
+pub mod Counting

@@ -39,3 +39,6 @@ pub mod Remembering
 pub mod Stepping
 pub mod Resolving
 pub mod Lending
+pub mod Caches
+pub mod Patching
+pub mod Counting
