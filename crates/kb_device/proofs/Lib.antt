@@ -65,4 +65,6 @@ pub mod Resolvings
 pub mod Shared
 pub mod Patched
 pub mod Copied
+pub mod OldFiles
+pub mod Requested
 pub mod Counting

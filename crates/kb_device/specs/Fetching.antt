@@ -18,7 +18,7 @@ use Rattle.kb_device.specs.Stands.{PlanStands, Member, DeviceStands}
 
 -- the plan of a head that was read, and of the tree of the known revision
 abbrev pub plan_from : Read → Tree → Plan
-plan_from r base = record { number = r.number; hash = r.hash; merged = r.tree; kept = r.kept; ring = r.ring; generation = r.generation; base = base }
+plan_from r base = record { number = r.number; hash = r.hash; merged = r.tree; kept = r.kept; cache = r.cache; ring = r.ring; generation = r.generation; base = base }
 
 -- a session with this plan
 abbrev pub with_plan : Inside → Plan → Inside

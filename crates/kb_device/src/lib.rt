@@ -31,7 +31,6 @@ mod settling;
 mod step_requests;
 
 pub use answers::{NoteFault, Noted, OpenFault, PickFault, Picked, PullFault, PutAnswer};
-pub use caching::{cache_of, keep_blocks};
 pub use called::{CallFault, Called, Closed, LookFault, Status};
 pub use device::Device;
 pub use fetched::FetchFault;
@@ -42,6 +41,6 @@ pub use merge_requests::merge_law;
 pub use part_laws::{
     journals_are_plain, others_keep, part_law, picks_law, return_law, settles_law,
 };
-pub use patching::{OldFile, build_step, few_law, old_file};
+pub use patching::{OldFile, build_step, few_law};
 pub use settled::SettleFault;
 pub use step_requests::{remember_law, step_law};
