@@ -1,5 +1,5 @@
 -- A file as it was before the write that the base table has already.
-use Rattle.std.proofs.Common.{◌≡◌, ℕ, List, length, Option, Some, None, refl, sym, ap, subst, ◌∙◌}
+use Rattle.std.proofs.Common.{◌≡◌, ℕ, List, length, Option, Some, None, inr, refl, sym, ap, subst, ◌∙◌}
 use Rattle.std.specs.Prelude.{IsSomeAnd}
 use Rattle.std.specs.FinMap.{get, insert}
 use Rattle.std.specs.Option.{option_map_or}
@@ -7,9 +7,10 @@ use Rattle.kb_name.specs.declared.ids.NodeId.{NodeId}
 use Rattle.kb_ops.specs.declared.values.Kind.TheVariants.{File}
 use Rattle.kb_ops.specs.declared.rows.Row.{Row}
 use Rattle.kb_ops.specs.declared.rows.Change.{Change}
+use Rattle.kb_ops.specs.declared.rows.Op.{Op}
 use Rattle.kb_ops.specs.declared.rows.Change.TheVariants.{Create, Remove, Rename, Sync, Exec, Touch}
 use Rattle.kb_ops.specs.Rows.{is_dir_kind}
-use Rattle.kb_ops.specs.Trees.{Tree, look, apply_change, edit, patched, FitsChange}
+use Rattle.kb_ops.specs.Trees.{Tree, look, apply, apply_change, edit, patched, Fits, FitsChange}
 use Rattle.kb_ops.proofs.Looks.{look-insert}
 use Rattle.kb_ops.proofs.TreeKept.{file_at}
 use Rattle.kb_files.specs.Files.{Vault}
@@ -19,6 +20,8 @@ use Rattle.kb_snap.specs.Pointers.{Kept, AllHold}
 use Rattle.kb_snap.proofs.Kept.{file_within}
 use Rattle.kb_snap.proofs.HeldRows.{as_file}
 use Rattle.kb_ranges.specs.Patches.{StaysIn}
+use Rattle.kb_device.specs.Left.{left_of}
+use Rattle.kb_device.specs.Inside.{HasDone}
 use Rattle.kb_device.specs.Patching.{IsOver, IsOldOf, IsOldAt, WasAt}
 use Rattle.kb_device.specs.declared.patching.OldFile.{OldFile}
 
@@ -64,3 +67,11 @@ was_over vault t id moment (Sync node offset bytes size) kept old fits all at =
     over_at vault t kept node offset bytes size moment old r.0 r.1 (subst (λ (o : Option Row). IsSomeAnd o (λ r. r.kind ≡ File)) r.1 fits.0) all at
 was_over vault t id moment (Exec node on) kept old fits all at = absurd at
 was_over vault t id moment (Touch node mtime) kept old fits all at = absurd at
+
+-- The base table goes ahead, by what was prepared of it.
+pub went_ahead : (op : Op) (ahead : ℕ) (base mid base' done : Tree) (kept kept' : Kept) (written written' : Option OldFile) → mid ≡ base → done ≡ apply op base → ahead ≡ 0 → Fits op base → base' ≡ done
+    → ((q : NodeId) → get kept' q ≡ left_of mid op.change q (get kept q)) → ((old : OldFile) → written' ≡ Some old → WasAt mid kept op.change old) → HasDone op ahead 1 base base' kept kept' written written'
+went_ahead op ahead base mid base' done kept kept' written written' stays does none fits is leaves was = record {
+  ahead_is = refl;
+  does = inr (none, fits, is ∙ does, (λ q p at. subst (λ (t : Tree). left_of t op.change q (get kept q) ≡ Some p) stays (sym (leaves q) ∙ at)), (λ old at. subst (λ (t : Tree). WasAt t kept op.change old) stays (was old at)));
+}
