@@ -17,4 +17,3 @@ pub mod Counting
 pub mod Few
 pub mod Tabling
 pub mod Owned
-pub mod Meeting

@@ -1,8 +1,6 @@
 //! The merge of three trees by what operations changed: only rows that matter are looked at.
 #![tactic(auto)]
 
-#[cfg(test)]
-mod checks;
 mod counted;
 mod edits;
 mod known;
@@ -14,8 +12,3 @@ mod tables;
 pub use counted::Counted;
 pub use merging::merge_by_actions;
 pub use tables::edit_table;
-
-#[cfg(test)]
-mod random;
-#[cfg(test)]
-mod tests;

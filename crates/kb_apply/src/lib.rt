@@ -12,6 +12,3 @@ pub use fitting::fits;
 pub use laws::{listed_law, placed_law};
 pub use plans::plan;
 pub use shows::{ShowFault, rows_of, show};
-
-#[cfg(test)]
-mod tests;

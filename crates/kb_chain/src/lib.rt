@@ -15,8 +15,6 @@ mod private_encode;
 mod privates;
 mod revisions;
 mod states;
-#[cfg(test)]
-mod tests;
 
 pub use bundles::{BundlePart, Entries};
 pub use checks::{check_next, has_other_writer, is_signed, is_writer, stays};

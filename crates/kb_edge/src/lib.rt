@@ -1,9 +1,10 @@
-//! The outside of the program: where bytes come from, where they go, disks, and how often each has failed.
+//! The outside of the program: where bytes come from, where they go, disks, links, and how often each has failed.
 #![tactic(auto)]
 
 mod disk;
 mod ends;
 mod faults;
+mod link;
 mod standard;
 mod streams;
 #[cfg(test)]
@@ -11,6 +12,7 @@ mod tests;
 
 pub use disk::{CrashDisk, Disk, DiskMaker, Pick};
 pub use ends::{MemSink, MemSource};
-pub use faults::{Failed, Memory, Stopped};
+pub use faults::{Failed, Lost, Memory, Stopped};
+pub use link::{Link, MemLink, Side};
 pub use standard::{StdSink, StdSource};
 pub use streams::{Sink, Source};

@@ -1,5 +1,7 @@
 //! Calls that succeed, and what the ends over std's give.
-use crate::{Failed, MemSink, MemSource, Sink, Source, StdSink, StdSource};
+use crate::{
+    Failed, Link, Lost, MemLink, MemSink, MemSource, Side, Sink, Source, StdSink, StdSource,
+};
 use std::test::Fail;
 
 #[test]
@@ -54,4 +56,15 @@ fn a_writer_is_a_sink(rt: HostRuntime) {
         assert_eq!(rt; sink.put(b"de"), Err(Failed));
     }
     assert_eq!(rt; room, *b"abcd");
+}
+
+#[test]
+fn an_armed_side_loses_one_call(rt: HostRuntime) {
+    let mut link = MemLink::new();
+    assert_eq!(rt; link.send(), Ok(()));
+    link.arm(Side::Request);
+    link.arm(Side::Reply);
+    assert_eq!(rt; link.send(), Ok(()));
+    assert_eq!(rt; link.answer(), Err(Lost));
+    assert_eq!(rt; link.answer(), Ok(()));
 }

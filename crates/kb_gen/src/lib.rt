@@ -2,7 +2,5 @@
 #![tactic(auto)]
 
 mod statements;
-#[cfg(test)]
-mod tests;
 
 pub use statements::generate;

@@ -13,8 +13,6 @@ mod pieces;
 mod ranges;
 mod reading;
 mod ready;
-#[cfg(test)]
-mod tests;
 
 pub use entries::{Hash, Note};
 pub use faults::{AddFault, JournalFault};

@@ -6,8 +6,6 @@ mod laws;
 mod parts;
 mod patching;
 mod reading;
-#[cfg(test)]
-mod tests;
 mod writing;
 
 pub use laws::{byte_law, cut_law, put_law, write_law};

@@ -11,8 +11,6 @@ ghost use Rattle.kb_resolver.specs.Few.{FewAreSplit};
 ghost use Rattle.kb_resolver.specs.Branches.{Lead, LooksFew};
 
 mod edits;
-#[cfg(test)]
-mod tests;
 
 use self::edits::edits_between;
 use kb_actions::merge_by_actions;

@@ -30,7 +30,6 @@ pub mod JoinWalks
 pub mod NamingFacts
 pub mod RowFacts
 pub mod TreeRows
-pub mod CheckFacts
 pub mod Pairs
 pub mod Merges
 pub mod Alike

@@ -11,4 +11,3 @@ pub mod Meanings
 pub mod PlaceSets
 pub mod Naming
 pub mod Hosting
-pub mod Checked

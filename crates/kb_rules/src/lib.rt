@@ -1,8 +1,6 @@
 //! The conflict rules: how three trees are merged.
 #![tactic(auto)]
 
-#[cfg(test)]
-mod checks;
 mod fates;
 mod found;
 mod hosts;
@@ -31,6 +29,3 @@ pub use seats::{Seats, seats_of};
 pub use sides::Sides;
 pub use splits::{all_ids, copies_of, splits_of};
 pub use stamp::Stamp;
-
-#[cfg(test)]
-mod tests;

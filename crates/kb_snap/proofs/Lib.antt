@@ -14,7 +14,6 @@ pub mod Stacks
 pub mod Reading
 pub mod Agreeing
 pub mod Turns
-pub mod TestFits
 pub mod Found
 pub mod Sets
 pub mod Lists

@@ -10,8 +10,6 @@ mod loading;
 mod order;
 mod pointers;
 mod rows;
-#[cfg(test)]
-mod tests;
 
 pub use blocks::SealedBlocks;
 pub use building::{Built, build};
