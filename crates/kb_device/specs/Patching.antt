@@ -95,6 +95,11 @@ abbrev pub BuildsStep : (List ℕ → List ℕ → List ℕ) → (List ℕ → L
 BuildsStep sealed hashed cache ring t left change old p blocks pointers =
     (few : Blocks) → AreIn cache few → Grounds sealed hashed few ring t left change old → OnceAllAdded hashed sealed few ring blocks (HoldsAll t p pointers)
 
+-- and the pointers hold their rows
+abbrev pub KeepsStep : (List ℕ → List ℕ → List ℕ) → (List ℕ → List ℕ) → Cache → Keys → Tree → Kept → Change → Option OldFile → List (List ℕ) → Kept → Type 0
+KeepsStep sealed hashed cache ring t left change old blocks pointers =
+    (few : Blocks) → AreIn cache few → Grounds sealed hashed few ring t left change old → OnceAllAdded hashed sealed few ring blocks (λ vault. AllHold vault (look t) pointers)
+
 -- the blocks are those of exactly the rows without a pointer
 abbrev pub MakesRest : (List ℕ → List ℕ → List ℕ) → (List ℕ → List ℕ) → Keys → ℕ → Tree → Kept → List (List ℕ) → Kept → Type 0
 MakesRest sealed hashed ring generation t left blocks pointers = (key : List ℕ) × (ring generation ≡ Some key) × IsMade sealed hashed key generation t left pointers blocks

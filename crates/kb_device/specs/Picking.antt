@@ -1,12 +1,10 @@
 -- What a pick does to a session.
 use Rattle.std.specs.Prelude.{◌≡◌, ◌⊎◌, ℕ, ◌+◌, true, false, List, [], ◌∷◌, Option, Some, None, IsSome, Result, Ok, Err}
 use Rattle.kb_ops.specs.declared.rows.Op.{Op}
-use Rattle.kb_ops.specs.Trees.{look}
 use Rattle.kb_keys.specs.Rings.{key_at}
-use Rattle.kb_files.specs.Opens.{Blocks}
-use Rattle.kb_snap.specs.Pointers.{Kept, AllHold}
-use Rattle.kb_device.specs.Caches.{Cache, AreIn, Takes}
-use Rattle.kb_device.specs.Patching.{OnceAllAdded, Grounds}
+use Rattle.kb_snap.specs.Pointers.{Kept}
+use Rattle.kb_device.specs.Caches.{Cache, Takes}
+use Rattle.kb_device.specs.Patching.{KeepsStep}
 use Rattle.kb_device.specs.Parts.{Flight}
 use Rattle.kb_device.specs.Stepping.{IsStepRequest}
 use Rattle.kb_device.specs.Inside.{Aloft, Inside, HasDone}
@@ -43,7 +41,7 @@ pub record IsMade (sealed signed : List ℕ → List ℕ → List ℕ) (hashed :
   pub key : List ℕ
   pub keyed : key_at s.ring s.generation ≡ Some key
   pub made : IsStepRequest sealed signed hashed secret key s.generation picked.number s.journal.hash op s.base left cache (key_at s.ring) s.written picked.request
-  pub pointers : (few : Blocks) → AreIn cache few → Grounds sealed hashed few (key_at s.ring) s.base left op.change s.written → OnceAllAdded hashed sealed few (key_at s.ring) picked.request.blocks (λ vault. AllHold vault (look s.base) a.kept)
+  pub pointers : KeepsStep sealed hashed cache (key_at s.ring) s.base left op.change s.written picked.request.blocks a.kept
 
 -- A request of the first operation of the queue is given, its flight is kept, and the cache takes its blocks.
 pub record Picks (sealed signed : List ℕ → List ℕ → List ℕ) (hashed : List ℕ → List ℕ) (secret : List ℕ) (old : Inside) (picked : Picked) (new : Inside) : Type 0 where

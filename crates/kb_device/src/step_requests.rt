@@ -5,15 +5,12 @@ ghost use Rattle.kb_ops.specs.declared.rows.Row.{Row};
 ghost use Rattle.kb_ops.specs.Trees.{look};
 ghost use Rattle.kb_ops.specs.Grammar.{IsProper};
 ghost use Rattle.kb_keys.specs.Rings.{key_at};
-ghost use Rattle.kb_files.specs.Opens.{Blocks};
-ghost use Rattle.kb_snap.specs.Pointers.{AllHold};
 ghost use Rattle.kb_chain.specs.declared.revisions.RevisionKind.TheVariants.{Step};
 ghost use Rattle.kb_chain.specs.Revisions.{revision_text, signed_text, with_signature, IsRevision};
 ghost use Rattle.kb_chain.specs.Privates.{private_text, IsPrivate};
 ghost use Rattle.kb_folder.specs.Chains.{Names};
-ghost use Rattle.kb_device.specs.Caches.{AreIn};
 ghost use Rattle.kb_device.specs.Left.{AreOf};
-ghost use Rattle.kb_device.specs.Patching.{Grounds, OnceAllAdded};
+ghost use Rattle.kb_device.specs.Patching.{KeepsStep};
 ghost use Rattle.kb_device.specs.Stepping.{step_private, step_unsigned, IsStepRequest, StepsAreFor};
 ghost use Rattle.kb_device.specs.Remembering.{RemembersLonger, RemembersGives, RemembersTaken};
 
@@ -127,7 +124,7 @@ pub fn step_request<S: Sealer, H: BlockHash>(
     requires generation { (1 ≤ generation) × (generation ≤ 64) }
     requires keyed { key_at ring.now generation ≡ Some key.now }
     ensures step { IfOk result (λ made. IsStepRequest S.sealed S.signed H.hashed secret.now key.now generation number head.now op table.now.tree left.old cache.now (key_at ring.now) old made.request) }
-    ensures pointers { IfOk result (λ made. (few : Blocks) → AreIn cache.now few → Grounds S.sealed H.hashed few (key_at ring.now) table.now.tree left.old op.change old → OnceAllAdded H.hashed S.sealed few (key_at ring.now) made.request.blocks (λ vault. AllHold vault (look table.now.tree) made.pointers)) }
+    ensures pointers { IfOk result (λ made. KeepsStep S.sealed H.hashed cache.now (key_at ring.now) table.now.tree left.old op.change old made.request.blocks made.pointers) }
     ensures left { AreOf left.new left.old }
 {
     table.is_well_formed();
