@@ -2,6 +2,7 @@
 mod branches;
 mod generated;
 mod looks;
+mod patches;
 mod scripts;
 
 use crate::{Status, run_script, run_words};
