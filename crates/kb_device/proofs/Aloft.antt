@@ -1,13 +1,14 @@
 -- A flight that is out stays so over a pick that is refused and over a pull.
 use Rattle.std.proofs.Common.{◌≡◌, ℕ, ◌≤◌, true, false, List, [], length, Option, None, Some, Result, Ok, Err, OnErr, inl, inr, refl, sym, ap, subst, ◌∙◌, arith}
 use Rattle.kb_ops.specs.Trees.{look}
-use Rattle.kb_keys.specs.Secrets.{folder_key}
 use Rattle.std.specs.FinMap.{get}
 use Rattle.kb_files.specs.Opens.{Opens}
 use Rattle.kb_folder.specs.Stands.{keys_to}
 use Rattle.kb_folder.specs.Puts.{Held}
-use Rattle.kb_snap.specs.Pointers.{AllHold, Kept}
-use Rattle.kb_snap.specs.Builds.{OnceAllStored}
+use Rattle.kb_snap.specs.Pointers.{AllHold}
+use Rattle.kb_ranges.specs.Patches.{StaysIn}
+use Rattle.kb_device.specs.Caches.{Cache, known_in, HasAll}
+use Rattle.kb_device.specs.Patching.{OnceAllAdded}
 use Rattle.kb_ops.specs.Trees.{Tree}
 use Rattle.kb_device.specs.Inside.{Aloft, Inside, IsRunning}
 use Rattle.kb_device.specs.Stands.{Member, Platter}
@@ -31,33 +32,38 @@ module _ (sealed : List ℕ → List ℕ → List ℕ) (hashed : List ℕ → Li
   -- no flight is kept
   none_aloft : t.aloft ≡ None → WaitsOn sealed hashed seed old new
   none_aloft none = record {
-    sent = λ request h x a is flies. absurd (none_some t.aloft a none (ap (λ (z : Inside). z.aloft) (some_once t x (sym now ∙ is)) ∙ flies));
+    sent = λ f request h x a is flies. absurd (none_some t.aloft a none (ap (λ (z : Inside). z.aloft) (some_once t x (sym now ∙ is)) ∙ flies));
     answer = λ f answer h x a n is flies ok. absurd (none_some t.aloft a none (ap (λ (z : Inside). z.aloft) (some_once t x (sym now ∙ is)) ∙ flies));
   }
 
   -- what a flight's request speaks of is as it was
-  still_aloft : t.generation ≡ s.generation → t.base ≡ s.base → t.kept ≡ s.kept → t.aloft ≡ s.aloft → WaitsOn sealed hashed seed old new
-  still_aloft generation base kept aloft = record {
-    sent = λ request h x a is flies.
+  still_aloft : t.generation ≡ s.generation → t.base ≡ s.base → t.cache ≡ s.cache → t.aloft ≡ s.aloft → WaitsOn sealed hashed seed old new
+  still_aloft generation base cache aloft = record {
+    sent = λ f request h x a is flies.
         let to : t ≡ x = some_once t x (sym now ∙ is) in
-        let P : ℕ → Tree → Kept → Type 0 = λ g b k. OnceAllStored hashed sealed g (folder_key seed g) request.blocks (λ vault. AllHold vault (look b) k → AllHold vault (look b) a.kept) in
-        let at : P s.generation s.base s.kept = h s a was (sym aloft ∙ ap (λ (z : Inside). z.aloft) to ∙ flies) in
-        let there : P t.generation t.base t.kept = subst (λ g. P g t.base t.kept) (sym generation) (subst (λ b. P s.generation b t.kept) (sym base) (subst (λ k. P s.generation s.base k) (sym kept) at)) in
-        subst (λ z. IsRequestOf sealed hashed seed request z a) to there;
+        let r = h s a was (sym aloft ∙ ap (λ (z : Inside). z.aloft) to ∙ flies) in
+        let P : ℕ → Tree → Type 0 = λ g b. OnceAllAdded hashed sealed r.few (keys_to seed g) request.blocks (λ vault. AllHold vault (look b) a.kept) in
+        let there : IsRequestOf sealed hashed seed f request t a = record {
+          few = r.few;
+          within = subst (λ (m : Cache). StaysIn r.few (known_in m (get f.blocks))) (sym cache) r.within;
+          cached = subst (λ (m : Cache). HasAll hashed m request.blocks) (sym cache) r.cached;
+          holds = subst (λ g. P g t.base) (sym generation) (subst (λ b. P s.generation b) (sym base) r.holds);
+        } in
+        subst (λ z. IsRequestOf sealed hashed seed f request z a) to there;
     answer = λ f answer h x a n is flies ok.
         let to : t ≡ x = some_once t x (sym now ∙ is) in
         let l = h s a n was (sym aloft ∙ ap (λ (z : Inside). z.aloft) to ∙ flies) ok in
-        let P : ℕ → Tree → Type 0 = λ g b. AllHold (Opens sealed hashed (get f.blocks) (keys_to seed g)) (look b) a.kept in
-        let there : P t.generation t.base = subst (λ g. P g t.base) (sym generation) (subst (λ b. P s.generation b) (sym base) l.held) in
+        let P : Cache → ℕ → Tree → Type 0 = λ m g b. AllHold (Opens sealed hashed (known_in m (get f.blocks)) (keys_to seed g)) (look b) a.kept in
+        let there : P t.cache t.generation t.base = subst (λ m. P m t.generation t.base) (sym cache) (subst (λ g. P s.cache g t.base) (sym generation) (subst (λ b. P s.cache s.generation b) (sym base) l.held)) in
         subst (λ z. HasLanded sealed hashed seed f z a answer.hash) to (record { hash_is = l.hash_is; held = there });
   }
 
   same_aloft : t ≡ s → WaitsOn sealed hashed seed old new
-  same_aloft e = still_aloft (ap (λ (z : Inside). z.generation) e) (ap (λ (z : Inside). z.base) e) (ap (λ (z : Inside). z.kept) e) (ap (λ (z : Inside). z.aloft) e)
+  same_aloft e = still_aloft (ap (λ (z : Inside). z.generation) e) (ap (λ (z : Inside). z.base) e) (ap (λ (z : Inside). z.cache) e) (ap (λ (z : Inside). z.aloft) e)
 
   -- the base table went ahead, which it has already where a flight is kept
-  ahead_aloft : IsRunning s → GoesAhead s t → t ≡ with_flight s t s.aloft → WaitsOn sealed hashed seed old new
-  ahead_aloft running ahead e = by s.aloft refl where
+  ahead_aloft : IsRunning s → GoesAhead s t → t ≡ with_flight s t s.aloft → t.cache ≡ s.cache → WaitsOn sealed hashed seed old new
+  ahead_aloft running ahead e cache = by s.aloft refl where
     aloft : t.aloft ≡ s.aloft
     aloft = ap (λ (z : Inside). z.aloft) e
 
@@ -66,7 +72,7 @@ module _ (sealed : List ℕ → List ℕ → List ℕ) (hashed : List ℕ → Li
     by (Some a) some =
         let one : s.ahead ≡ 1 = (running.aloft a some).ahead in
         elim ahead.done.does [
-          | inl same ↦ still_aloft (ap (λ (z : Inside). z.generation) e) same.1 same.2 aloft
+          | inl same ↦ still_aloft (ap (λ (z : Inside). z.generation) e) same.1 cache aloft
           | inr went ↦ absurd (let zero_ : s.ahead ≡ 0 = went.0 in omega arith)
         ]
 
@@ -76,7 +82,7 @@ module _ (sealed : List ℕ → List ℕ → List ℕ) (hashed : List ℕ → Li
   picks_wait signed secret running (Err pick.InFlight) does = same_aloft does.0
   picks_wait signed secret running (Err pick.Branched) does = same_aloft does.0
   picks_wait signed secret running (Err pick.Idle) does = same_aloft does.0
-  picks_wait signed secret running (Err pick.Memory) does = elim does [ inl e ↦ same_aloft e | inr ahead ↦ ahead_aloft running ahead.0 ahead.1 ]
+  picks_wait signed secret running (Err pick.Memory) does = elim does [ inl e ↦ same_aloft e | inr ahead ↦ ahead_aloft running ahead.0 ahead.1 ahead.2 ]
 
   -- where nothing is queued, no flight is kept
   none_flies : IsRunning s → s.journal.queue ≡ [] → s.aloft ≡ None

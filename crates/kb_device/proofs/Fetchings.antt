@@ -46,7 +46,7 @@ module _ (sealed signed : List ℕ → List ℕ → List ℕ) (hashed : List ℕ
   closed_fetch none = λ c p part has h. (p, (refl, closed_at sealed signed hashed seed names old.number f c old p none h), h)
 
   pub same_waits : WaitsOn sealed hashed seed old old
-  same_waits = record { sent = λ request h. h; answer = λ f answer h. h }
+  same_waits = record { sent = λ f request h. h; answer = λ f answer h. h }
 
   module _ (s t : Inside) (was : old.inside ≡ Some s) where
     abbrev new : Member
@@ -90,6 +90,7 @@ module _ (sealed signed : List ℕ → List ℕ → List ℕ) (hashed : List ℕ
       role = session.role;
       remembers = session.remembers;
       held = session.held;
+      written = session.written;
       ring = session.ring;
       flight = session.flight;
       plan = ap Some is;
@@ -119,9 +120,10 @@ module _ (sealed signed : List ℕ → List ℕ → List ℕ) (hashed : List ℕ
     waits_by plan e =
         let y : Inside = record s { plan = plan } in
         record {
-          sent = λ request h x a is flies.
+          sent = λ f request h x a is flies.
               let to : y ≡ x = sym e ∙ some_is t x is in
-              subst (λ z. IsRequestOf sealed hashed seed request z a) to (h s a was (ap (λ (z : Inside). z.aloft) to ∙ flies));
+              let r = h s a was (ap (λ (z : Inside). z.aloft) to ∙ flies) in
+              subst (λ z. IsRequestOf sealed hashed seed f request z a) to (record { few = r.few; within = r.within; cached = r.cached; holds = r.holds });
           answer = λ f answer h x a n is flies ok.
               let to : y ≡ x = sym e ∙ some_is t x is in
               let l = h s a n was (ap (λ (z : Inside). z.aloft) to ∙ flies) ok in

@@ -64,3 +64,9 @@ pub mod PartLaws
 pub mod Resolvings
 pub mod PlainOps
 pub mod MergedOps
+pub mod Shared
+pub mod Patched
+pub mod Copied
+pub mod OldFiles
+pub mod Requested
+pub mod Counting

@@ -6,9 +6,10 @@ use Rattle.std.proofs.lemmas.List.{length-map, length-reverse, reverse-append, m
 use Rattle.std.proofs.lemmas.List.Elements.{All-contains}
 use Rattle.sha2.specs.Sha256.{sha256}
 use Rattle.kb_ops.specs.Trees.{look}
-use Rattle.kb_files.specs.Opens.{Opens}
-use Rattle.kb_files.proofs.Vaults.{opens_kept}
-use Rattle.kb_snap.proofs.Kept.{row_within}
+use Rattle.kb_ranges.specs.Patches.{StaysIn}
+use Rattle.kb_device.specs.Caches.{Cache, known_in}
+use Rattle.kb_device.proofs.Shared.{known_longer, all_within}
+use Rattle.kb_device.proofs.OldFiles.{old_within}
 use Rattle.kb_snap.specs.Chains.{Chain}
 use Rattle.kb_device.specs.Journals.{plain}
 use Rattle.kb_device.specs.Parts.{Part}
@@ -78,6 +79,9 @@ module _ (sealed signed : List ℕ → List ℕ → List ℕ) (hashed : List ℕ
     pub disk_longer : (disk : Platter) → DiskStands f.revisions disk p → DiskStands new.revisions disk p
     disk_longer disk h = record { images = λ image may. kept_longer image (h.images image may); area = h.area; left = h.left }
 
+    known_grown : (cache : Cache) → StaysIn (known_in cache (get f.blocks)) (known_in cache (get new.blocks))
+    known_grown cache = known_longer cache (get f.blocks) (get new.blocks) (blocks_grown f new grows)
+
     pub session_longer : (s : Inside) → SessionStands sealed signed hashed seed names f c s p → SessionStands sealed signed hashed seed names new (c ++ more) s p
     session_longer s h = record {
       at = h.at;
@@ -85,8 +89,9 @@ module _ (sealed signed : List ℕ → List ℕ → List ℕ) (hashed : List ℕ
       base = h.base;
       shown = h.shown;
       role = h.role;
-      remembers = longer sealed signed hashed seed names f new c more s.journal.known s.journal.hash s.generation s.kept has h.remembers grows;
-      held = λ q x at. row_within (Opens sealed hashed (get f.blocks) (keys_to seed s.generation)) (Opens sealed hashed (get new.blocks) (keys_to seed s.generation)) (opens_kept sealed hashed (get f.blocks) (get new.blocks) (keys_to seed s.generation) (blocks_grown f new grows)) (look s.base) q x (h.held q x at);
+      remembers = longer sealed signed hashed seed names f new c more s.journal.known s.journal.hash s.generation s.kept s.cache has h.remembers grows;
+      held = all_within sealed hashed (known_in s.cache (get f.blocks)) (known_in s.cache (get new.blocks)) (keys_to seed s.generation) (look s.base) s.kept (known_grown s.cache) h.held;
+      written = λ op rest old queue one is. old_within sealed hashed (known_in s.cache (get f.blocks)) (known_in s.cache (get new.blocks)) (keys_to seed s.generation) s.base op.change old (known_grown s.cache) (h.written op rest old queue one is);
       ring = h.ring;
       flight = h.flight;
       plan = h.plan;
@@ -94,7 +99,7 @@ module _ (sealed signed : List ℕ → List ℕ → List ℕ) (hashed : List ℕ
           let y = h.planned x is in
           record {
             merged = y.merged ∙ sym (tree_longer c more x.number y.remembers.within);
-            remembers = longer sealed signed hashed seed names f new c more x.number x.hash x.generation x.kept has y.remembers grows;
+            remembers = longer sealed signed hashed seed names f new c more x.number x.hash x.generation x.kept x.cache has y.remembers grows;
             ring = y.ring;
             base = y.base ∙ sym (tree_longer c more s.journal.known h.remembers.within);
             ops = y.ops ∙ ap (λ l. all_ops (drop s.journal.known l)) (sym (take-append-le x.number c more y.remembers.within));

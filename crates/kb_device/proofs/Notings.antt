@@ -31,6 +31,7 @@ use Rattle.kb_folder.specs.Puts.{Held}
 use Rattle.kb_folder.specs.Goes.{HasChain, Means}
 use Rattle.kb_device.specs.Inside.{Aloft, Plan, Inside, IsRunning}
 use Rattle.kb_device.specs.Stands.{Platter, Member, hashes_of, DiskStands, SessionStands, DeviceStands}
+use Rattle.kb_device.specs.Caches.{known_in}
 use Rattle.kb_device.specs.Noting.{Writes, Stops, landed, parted, with_landed, NoteDoes, HasLanded, UnlessStopped, is_stopped, member_after, NoteGoes}
 use Rattle.kb_device.specs.declared.answers.PutAnswer.{PutAnswer}
 use Rattle.kb_device.specs.declared.answers.Noted.{Noted}
@@ -165,9 +166,10 @@ module _ (sealed signed : List ℕ → List ℕ → List ℕ) (hashed : List ℕ
           within = within;
           hash_is = stands.hash_is;
           generation_is = session.remembers.generation_is ∙ sym (ap (λ n. generation_from 0 (take n c)) number_is ∙ step_generation c j.known step.revision step.rest (take a.flight.count j.queue) step.split step.deed);
-          held = subst (λ t. AllHold (Opens sealed hashed (get f.blocks) (keys_to seed s.generation)) (look t) a.kept) (sym tree_is) stands.held;
+          held = subst (λ t. AllHold (Opens sealed hashed (known_in s.cache (get f.blocks)) (keys_to seed s.generation)) (look t) a.kept) (sym tree_is) stands.held;
         };
         held = stands.held;
+        written = λ op rest old queue one is. cc;
         ring = session.ring;
         flight = refl;
         plan = session.plan;
@@ -214,6 +216,7 @@ module _ (sealed signed : List ℕ → List ℕ → List ℕ) (hashed : List ℕ
                   role = session.role;
                   remembers = record { within = r.within; hash_is = r.hash_is; generation_is = r.generation_is; held = r.held };
                   held = session.held;
+                  written = session.written;
                   ring = session.ring;
                   flight = refl;
                   plan = session.plan;
@@ -247,6 +250,7 @@ module _ (sealed signed : List ℕ → List ℕ → List ℕ) (hashed : List ℕ
                 role = session.role;
                 remembers = r;
                 held = session.held;
+                written = session.written;
                 ring = session.ring;
                 flight = refl;
                 plan = session.plan;

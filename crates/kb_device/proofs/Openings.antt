@@ -15,6 +15,7 @@ use Rattle.kb_journal.specs.State.{State, HasState}
 use Rattle.kb_journal.proofs.OneState.{one_state}
 use Rattle.kb_snap.specs.Chains.{Chain, tree_at}
 use Rattle.kb_snap.specs.Members.{roles_of, roles_at, IsStranger}
+use Rattle.kb_device.specs.Caches.{known_in}
 use Rattle.kb_device.specs.Answers as says
 use Rattle.kb_device.specs.Journals.{Journal, plain, taken_over, resumed}
 use Rattle.kb_device.specs.Disks as front
@@ -126,8 +127,9 @@ module _ (sealed signed : List ℕ → List ℕ → List ℕ) (hashed : List ℕ
             base = base;
             shown = begun.shown ∙ ap (fold_ops after.queue) base;
             role = g.role_is ∙ ap (λ n. roles_at c n d) g.number;
-            remembers = subst (λ n. Remembers sealed hashed seed f c n after.hash r.generation r.kept) (sym known_is) (subst (λ hash. Remembers sealed hashed seed f c r.number hash r.generation r.kept) (sym same_read) g.stands.remembers);
-            held = subst (λ t. AllHold (Opens sealed hashed (get f.blocks) (keys_to seed r.generation)) (look t) r.kept) (sym g.stands.tree) g.stands.remembers.held;
+            remembers = subst (λ n. Remembers sealed hashed seed f c n after.hash r.generation r.kept r.cache) (sym known_is) (subst (λ hash. Remembers sealed hashed seed f c r.number hash r.generation r.kept r.cache) (sym same_read) g.stands.remembers);
+            held = subst (λ t. AllHold (Opens sealed hashed (known_in r.cache (get f.blocks)) (keys_to seed r.generation)) (look t) r.kept) (sym g.stands.tree) g.stands.remembers.held;
+            written = λ op rest old queue one is. cc;
             ring = g.stands.ring;
             flight = refl;
             plan = refl;

@@ -78,7 +78,7 @@ module _ (d : ℕ) (s t : Inside) (h : IsOwned d s) where
   pick_owned sealed signed hashed secret (Err pick.Branched) does = whole_same does.0
   pick_owned sealed signed hashed secret (Err pick.Idle) does = whole_same does.0
   pick_owned sealed signed hashed secret (Err pick.Memory) (inl e) = whole_same e
-  pick_owned sealed signed hashed secret (Err pick.Memory) (inr (ahead, e)) = same_owned (ap (λ (x : Inside). x.journal) e) (ap (λ (x : Inside). x.shown) e)
+  pick_owned sealed signed hashed secret (Err pick.Memory) (inr (ahead, e, cache)) = same_owned (ap (λ (x : Inside). x.journal) e) (ap (λ (x : Inside). x.shown) e)
 
   pub note_owned : (was now : Platter) (answer : PutAnswer) (r : Result Noted NoteFault) → IsRunning s → NoteDoes s was answer t now r → UnlessNoteStopped r (IsOwned d t)
   note_owned was now answer (Ok (noted.Landed n)) running does =

@@ -14,6 +14,7 @@ use Rattle.kb_chain.specs.declared.revisions.Revision.{Revision}
 use Rattle.kb_snap.specs.Chains as plain
 use Rattle.kb_snap.specs.Chains.{Chain}
 use Rattle.kb_snap.specs.Members.{generation_at, roles_at}
+use Rattle.kb_device.specs.Caches.{Cache, known_in}
 use Rattle.kb_device.specs.Disks as front
 use Rattle.kb_folder.specs.Chains.{Names, Back, tree_at, role_in, generation_in}
 use Rattle.kb_folder.specs.Stands.{keys_to}
@@ -81,8 +82,8 @@ module _ (sealed signed : List ℕ → List ℕ → List ℕ) (hashed : List ℕ
       ∙ (λ i. roles_at (sym has.turned i) (sym e i) d)
 
   -- what was read of it
-  module _ (number : ℕ) (e : number ≡ r + 1) (item : List ℕ) (item_is : p.bytes ≡ item) (lt : r < length back) (tree : Tree) (kept : Kept) (ring : Keys) (stands : RingStands seed read.generation ring)
-      (tree_is : tree ≡ tree_at (p.plain ∷ p.older) (length (p.plain ∷ p.older))) (held : AllHold (Opens sealed hashed (get f.blocks) (keys_to seed (generation_in (p.plain ∷ p.older)))) (look tree) kept) where
+  module _ (number : ℕ) (e : number ≡ r + 1) (item : List ℕ) (item_is : p.bytes ≡ item) (lt : r < length back) (tree : Tree) (kept : Kept) (cache : Cache) (ring : Keys) (stands : RingStands seed read.generation ring)
+      (tree_is : tree ≡ tree_at (p.plain ∷ p.older) (length (p.plain ∷ p.older))) (held : AllHold (Opens sealed hashed (known_in cache (get f.blocks)) (keys_to seed (generation_in (p.plain ∷ p.older)))) (look tree) kept) where
     tree_c : tree ≡ plain.tree_at c number
     tree_c = tree_is ∙ sym (tree_there back p.plain p.older r p.is p.size) ∙ (λ i. plain.tree_at (sym has.turned i) (sym e i))
 
@@ -92,7 +93,7 @@ module _ (sealed signed : List ℕ → List ℕ → List ℕ) (hashed : List ℕ
     within : number ≤ length c
     within = let s = size in omega (arith, e, lt, s)
 
-    pub read_stands : (let x : Read = record { number = number; hash = sha256 item; tree = tree; kept = kept; ring = ring; generation = read.generation } in ReadStands sealed hashed seed f c x)
+    pub read_stands : (let x : Read = record { number = number; hash = sha256 item; tree = tree; kept = kept; cache = cache; ring = ring; generation = read.generation } in ReadStands sealed hashed seed f c x)
     read_stands = record {
       some = omega (arith, e);
       tree = tree_c;
@@ -101,11 +102,11 @@ module _ (sealed signed : List ℕ → List ℕ → List ℕ) (hashed : List ℕ
         hash_is = ap sha256 (sym item_is) ∙ hash_there sealed signed hashed seed names f back has.stands (reverse f.revisions) refl r p ∙ sym (ap (front.hash_at (hashes_of f.revisions)) e)
             ∙ sym (same_hash f.revisions number (let len = chain_length sealed signed hashed seed names f c has in let w = within in omega (arith, len, w)));
         generation_is = generation_is ∙ sym (generation_there back p.plain p.older r p.is p.size) ∙ (λ i. generation_at (sym has.turned i) (sym e i));
-        held = subst (λ t. AllHold (Opens sealed hashed (get f.blocks) (keys_to seed read.generation)) (look t) kept) tree_c
-            (subst (λ n. AllHold (Opens sealed hashed (get f.blocks) (keys_to seed n)) (look tree) kept) (sym generation_is) held);
+        held = subst (λ t. AllHold (Opens sealed hashed (known_in cache (get f.blocks)) (keys_to seed read.generation)) (look t) kept) tree_c
+            (subst (λ n. AllHold (Opens sealed hashed (known_in cache (get f.blocks)) (keys_to seed n)) (look tree) kept) (sym generation_is) held);
       };
       ring = stands;
     }
 
-    pub readable : (let x : Read = record { number = number; hash = sha256 item; tree = tree; kept = kept; ring = ring; generation = read.generation } in is_readable 0 x ≡ true)
-    readable = (let x : Read = record { number = number; hash = sha256 item; tree = tree; kept = kept; ring = ring; generation = read.generation } in readable_is seed 0 x (omega (arith, e)) (omega (arith, e)) ranged.0 ranged.1 stands)
+    pub readable : (let x : Read = record { number = number; hash = sha256 item; tree = tree; kept = kept; cache = cache; ring = ring; generation = read.generation } in is_readable 0 x ≡ true)
+    readable = (let x : Read = record { number = number; hash = sha256 item; tree = tree; kept = kept; cache = cache; ring = ring; generation = read.generation } in readable_is seed 0 x (omega (arith, e)) (omega (arith, e)) ranged.0 ranged.1 stands)

@@ -1,5 +1,5 @@
 -- The request of a pick is for the machine's ask.
-use Rattle.std.proofs.Common.{◌≡◌, ◌≢◌, ℕ, ◌+◌, ◌≤◌, List, [], ◌∷◌, length, take, drop, min, sym, ap, subst, ◌∙◌, arith}
+use Rattle.std.proofs.Common.{◌≡◌, ◌≢◌, ℕ, ◌+◌, ◌≤◌, Option, List, [], ◌∷◌, length, take, drop, min, sym, ap, subst, ◌∙◌, arith}
 use Rattle.kb_ops.specs.declared.rows.Op.{Op}
 use Rattle.kb_ops.specs.Trees.{Tree, fold_ops, FitAll}
 use Rattle.kb_keys.specs.Secrets.{device_secret, folder_key}
@@ -18,7 +18,10 @@ use Rattle.kb_folder.specs.Chains.{Names}
 use Rattle.kb_folder.specs.Puts.{Held}
 use Rattle.kb_folder.specs.Goes.{HasChain, IsFor}
 use Rattle.kb_device.specs.Stepping.{step_ask, IsStepRequest, IsKnown}
-use Rattle.kb_device.specs.Knowing.{KnowsFolder}
+use Rattle.kb_folder.specs.Stands.{keys_to}
+use Rattle.kb_device.specs.Caches.{Cache}
+use Rattle.kb_device.specs.declared.patching.OldFile.{OldFile}
+use Rattle.kb_device.specs.Knowing.{KnowsStep}
 use Rattle.kb_device.proofs.Step.{for}
 
 first_one : (op : Op) (rest queue : List Op) → queue ≡ op ∷ rest → take (min 1 (length queue)) queue ≡ op ∷ []
@@ -53,8 +56,8 @@ module _ (sealed signed : List ℕ → List ℕ → List ℕ) (hashed : List ℕ
   none : NoneOf d (drop j.known c)
   none = subst (FlightMeets d c j) step.free s.flight
 
-  known : (generation : ℕ) (head : List ℕ) (t : Tree) (left : Kept) → t ≡ fold_ops (op ∷ []) p.base → flight.number ≡ length c + 1 → KnowsFolder sealed hashed seed f c generation head t left → IsKnown sealed hashed seed f c generation head op t left
-  known generation head t left tree next k =
+  known : (generation : ℕ) (head : List ℕ) (t : Tree) (left : Kept) (cache : Cache) (old : Option OldFile) → t ≡ fold_ops (op ∷ []) p.base → flight.number ≡ length c + 1 → KnowsStep sealed hashed seed f c generation head t left op.change cache old → IsKnown sealed hashed seed f c generation head op t left cache old
+  known generation head t left cache old tree next k =
       let last : j.known ≡ length c = (let e = number_is in omega (arith, e, next)) in
       let at : j.known ≡ length c → tree_at c j.known ≡ tree_at c (length c) = ap (tree_at c) in
       record {
@@ -64,15 +67,18 @@ module _ (sealed signed : List ℕ → List ℕ → List ℕ) (hashed : List ℕ
         fits = subst (FitAll (op ∷ [])) (at last) (fit_take 1 (op ∷ rest) (tree_at c j.known) (subst (λ l. FitAll l (tree_at c j.known)) queue m.fit));
         tree = tree ∙ ap (fold_ops (op ∷ [])) (s.base ∙ at last);
         seq = (subst (CountsFrom (j.base + 1)) queue m.counts).0 ∙ ap (λ n. n + 1) (sym (base_all d c j m none)) ∙ ap (λ e. length (ops_of e c) + 1) (sym device_is);
-        held = k.held;
+        few = k.few;
+        cached = k.cached;
+        within = k.within;
+        grounds = k.grounds;
       }
 
-  pub picked : (generation : ℕ) (head : List ℕ) (t : Tree) (left : Kept) (request : FolderRequest) → HasChain sealed signed hashed seed names f c → t ≡ fold_ops (op ∷ []) p.base → (1 ≤ d) × (d ≤ f.state.registered)
-      → (flight.number ≡ length c + 1 → KnowsFolder sealed hashed seed f c generation head t left)
-      → IsStepRequest sealed signed hashed (device_secret seed d) (folder_key seed generation) generation flight.number head op t left request → IsFor sealed signed hashed seed names f request ask
-  picked generation head t left request has tree registered knows made =
+  pub picked : (generation : ℕ) (head : List ℕ) (t : Tree) (left : Kept) (cache : Cache) (old : Option OldFile) (request : FolderRequest) → HasChain sealed signed hashed seed names f c → t ≡ fold_ops (op ∷ []) p.base → (1 ≤ d) × (d ≤ f.state.registered)
+      → (flight.number ≡ length c + 1 → KnowsStep sealed hashed seed f c generation head t left op.change cache old)
+      → IsStepRequest sealed signed hashed (device_secret seed d) (folder_key seed generation) generation flight.number head op t left cache (keys_to seed generation) old request → IsFor sealed signed hashed seed names f request ask
+  picked generation head t left cache old request has tree registered knows made =
       let within = m.within in let number = number_is in
       subst (λ (a : Ask). IsFor sealed signed hashed seed names f request a) (sym ask_is)
-      (for sealed signed hashed one_plain seed names f generation flight.number head op t left request
-      (subst (λ e. IsStepRequest sealed signed hashed (device_secret seed e) (folder_key seed generation) generation flight.number head op t left request) (sym device_is) made)
-      c has (subst (λ e. (1 ≤ e) × (e ≤ f.state.registered)) (sym device_is) registered) (omega (arith, within, number)) (λ next. known generation head t left tree next (knows next)))
+      (for sealed signed hashed one_plain seed names f generation flight.number head op t left cache old request
+      (subst (λ e. IsStepRequest sealed signed hashed (device_secret seed e) (folder_key seed generation) generation flight.number head op t left cache (keys_to seed generation) old request) (sym device_is) made)
+      c has (subst (λ e. (1 ≤ e) × (e ≤ f.state.registered)) (sym device_is) registered) (omega (arith, within, number)) (λ next. known generation head t left cache old tree next (knows next)))

@@ -27,11 +27,18 @@ use Rattle.kb_folder.specs.Stands.{Revisions, head_of, keys_to}
 use Rattle.kb_folder.specs.Puts.{Held}
 use Rattle.kb_folder.specs.Goes.{HasChain, IsFor}
 use Rattle.kb_device.specs.Left.{left_of, left_from, left_way}
-use Rattle.kb_device.specs.Knowing.{KnowsFolder}
+use Rattle.kb_device.specs.Knowing.{KnowsStep}
 use Rattle.kb_device.specs.PicksFor.{PicksAreFor}
 use Rattle.kb_device.specs.Remembering.{hash_at}
 use Rattle.kb_device.specs.Stepping.{IsStepRequest}
-use Rattle.kb_device.proofs.Touched.{left_holds}
+use Rattle.kb_ranges.specs.Patches.{StaysIn}
+use Rattle.kb_files.specs.Files.{Vault}
+use Rattle.kb_device.specs.Caches.{Cache, known_in}
+use Rattle.kb_device.specs.Patching.{IsOldOf, Grounds}
+use Rattle.kb_device.specs.declared.patching.OldFile.{OldFile}
+use Rattle.kb_device.proofs.OldFiles.{old_within, was_over}
+use Rattle.kb_device.proofs.Shared.{known_there, known_cached, known_taken, all_within}
+use Rattle.kb_device.proofs.Touched.{leaves_hold}
 use Rattle.kb_device.proofs.Step.{key_now}
 use Rattle.kb_device.specs.Inside.{Aloft, Plan, Inside, IsRunning, HasDone}
 use Rattle.kb_device.specs.Stands.{PlanStands, Member, RingStands, SessionStands, DeviceStands}
@@ -62,31 +69,36 @@ left_within t (Touch node mtime) q old x e = from_within (is_below t q node) old
 -- ---- the base table
 
 -- the base table is ahead by the first operation
-done_base : (op : Op) (rest : List Op) (known : Tree) (ahead ahead' : ℕ) (base base' : Tree) (kept kept' : Kept) → HasDone op ahead ahead' base base' kept kept'
+done_base : (op : Op) (rest : List Op) (known : Tree) (ahead ahead' : ℕ) (base base' : Tree) (kept kept' : Kept) (written written' : Option OldFile) → HasDone op ahead ahead' base base' kept kept' written written'
     → base ≡ fold_ops (take ahead (op ∷ rest)) known → base' ≡ fold_ops (op ∷ []) known
-done_base op rest known ahead ahead' base base' kept kept' d is = elim d.does [
-  | inl (one, same, _) ↦ same ∙ is ∙ ap (λ n. fold_ops (take n (op ∷ rest)) known) one
-  | inr (none, fits, does, _) ↦ does ∙ ap (apply op) (is ∙ ap (λ n. fold_ops (take n (op ∷ rest)) known) none)
+done_base op rest known ahead ahead' base base' kept kept' written written' d is = elim d.does [
+  | inl (one, same, _, _) ↦ same ∙ is ∙ ap (λ n. fold_ops (take n (op ∷ rest)) known) one
+  | inr (none, fits, does, _, _) ↦ does ∙ ap (apply op) (is ∙ ap (λ n. fold_ops (take n (op ∷ rest)) known) none)
 ]
 
-module _ (sealed : List ℕ → List ℕ → List ℕ) (hashed : List ℕ → List ℕ) (seed : List ℕ) where
-  -- pointers of rows of another tree stay so
-  done_kept : (f : Held) (generation : ℕ) (t : Tree) (op : Op) (ahead ahead' : ℕ) (base base' : Tree) (kept kept' : Kept) → HasDone op ahead ahead' base base' kept kept'
-      → AllHold (Opens sealed hashed (get f.blocks) (keys_to seed generation)) (look t) kept → AllHold (Opens sealed hashed (get f.blocks) (keys_to seed generation)) (look t) kept'
-  done_kept f generation t op ahead ahead' base base' kept kept' d all = λ q x at. elim d.does [
-    | inl (one, same, stay) ↦ all q x (ap (λ k. get k q) (sym stay) ∙ at)
-    | inr (none, fits, does, left) ↦ all q x (left_within base op.change q (get kept q) x (sym (left q) ∙ at))
-  ]
+-- pointers of rows of another tree stay so
+done_kept : (vault : Vault) (t : Tree) (op : Op) (ahead ahead' : ℕ) (base base' : Tree) (kept kept' : Kept) (written written' : Option OldFile) → HasDone op ahead ahead' base base' kept kept' written written'
+    → AllHold vault (look t) kept → AllHold vault (look t) kept'
+done_kept vault t op ahead ahead' base base' kept kept' written written' d all = λ q x at. elim d.does [
+  | inl (one, same, stay, _) ↦ all q x (stay q x at)
+  | inr (none, fits, does, left, _) ↦ all q x (left_within base op.change q (get kept q) x (left q x at))
+]
 
-  -- and those of rows of the base table are of rows of the new one
-  done_held : (f : Held) (generation : ℕ) (op : Op) (ahead ahead' : ℕ) (base base' : Tree) (kept kept' : Kept) → HasDone op ahead ahead' base base' kept kept'
-      → AllHold (Opens sealed hashed (get f.blocks) (keys_to seed generation)) (look base) kept → AllHold (Opens sealed hashed (get f.blocks) (keys_to seed generation)) (look base') kept'
-  done_held f generation op ahead ahead' base base' kept kept' d all = elim d.does [
-    | inl (one, same, stay) ↦ subst (λ t. AllHold (Opens sealed hashed (get f.blocks) (keys_to seed generation)) (look t) kept') (sym same)
-        (subst (AllHold (Opens sealed hashed (get f.blocks) (keys_to seed generation)) (look base)) (sym stay) all)
-    | inr (none, fits, does, left) ↦ subst (λ t. AllHold (Opens sealed hashed (get f.blocks) (keys_to seed generation)) (look t) kept') (sym does)
-        (left_holds (Opens sealed hashed (get f.blocks) (keys_to seed generation)) base (new_id op) op.moment op.change kept kept' fits left all)
-  ]
+-- and those of rows of the base table are of rows of the new one
+done_held : (vault : Vault) (op : Op) (ahead ahead' : ℕ) (base base' : Tree) (kept kept' : Kept) (written written' : Option OldFile) → HasDone op ahead ahead' base base' kept kept' written written'
+    → AllHold vault (look base) kept → AllHold vault (look base') kept'
+done_held vault op ahead ahead' base base' kept kept' written written' d all = elim d.does [
+  | inl (one, same, stay, _) ↦ subst (λ t. AllHold vault (look t) kept') (sym same) (λ q x at. all q x (stay q x at))
+  | inr (none, fits, does, left, _) ↦ subst (λ t. AllHold vault (look t) kept') (sym does) (leaves_hold vault base (new_id op) op.moment op.change kept kept' fits left all)
+]
+
+-- the file that it has written is held as it was
+done_written : (vault : Vault) (op : Op) (ahead ahead' : ℕ) (base base' : Tree) (kept kept' : Kept) (written written' : Option OldFile) → HasDone op ahead ahead' base base' kept kept' written written'
+    → AllHold vault (look base) kept → ((old : OldFile) → ahead ≡ 1 → written ≡ Some old → IsOldOf vault base op.change old) → (old : OldFile) → written' ≡ Some old → IsOldOf vault base' op.change old
+done_written vault op ahead ahead' base base' kept kept' written written' d all was old is = elim d.does [
+  | inl (one, same, stay, still) ↦ subst (λ t. IsOldOf vault t op.change old) (sym same) (was old one (sym still ∙ is))
+  | inr (none, fits, does, left, at) ↦ subst (λ t. IsOldOf vault t op.change old) (sym does) (was_over vault base (new_id op) op.moment op.change kept old fits all (at old is))
+]
 
 -- the key of the last generation is the folder's
 pub ring_key : (seed : List ℕ) (generation : ℕ) (ring : Keys) → RingStands seed generation ring → 1 ≤ generation → (key : List ℕ) → key_at ring generation ≡ Some key → key ≡ folder_key seed generation
@@ -101,16 +113,27 @@ min_one : (op : Op) (rest queue : List Op) → queue ≡ op ∷ rest → min 1 (
 min_one op rest queue e = let l : length queue ≡ suc (length rest) = ap length e in omega (arith, l)
 
 module _ (sealed signed : List ℕ → List ℕ → List ℕ) (hashed : List ℕ → List ℕ) (seed : List ℕ) (names : Names) where
+  -- what a request of the operation takes is held in blocks of the cache that the folder has too
+  pub grounds_of : (f : Held) (c : Chain) (p : Part) (s t : Inside) (left : Kept) → SessionStands sealed signed hashed seed names f c s p → (g : GoesAhead s t) → HasDone g.op s.ahead t.ahead s.base t.base s.kept left s.written t.written → t.generation ≡ s.generation
+      → Grounds sealed hashed (known_in s.cache (get f.blocks)) (keys_to seed t.generation) t.base left g.op.change t.written
+  grounds_of f c p s t left h g done generation =
+      let vault = Opens sealed hashed (known_in s.cache (get f.blocks)) (keys_to seed s.generation) in
+      subst (λ n. Grounds sealed hashed (known_in s.cache (get f.blocks)) (keys_to seed n) t.base left g.op.change t.written) (sym generation) (record {
+        rows = done_held vault g.op s.ahead t.ahead s.base t.base s.kept left s.written t.written done h.held;
+        file = done_written vault g.op s.ahead t.ahead s.base t.base s.kept left s.written t.written done h.held (λ old one is. h.written g.op g.rest old g.queue one is);
+      })
+
   -- a session whose base table went ahead stands for the part with its flight
   pub ahead_stands : (f : Held) (c : Chain) (p : Part) (s t : Inside) (aloft : Option Aloft) (flight : Option Flight) → SessionStands sealed signed hashed seed names f c s p → (g : GoesAhead s t) → t ≡ with_flight s t aloft → IsRunning t
-      → flight ≡ option_map (λ (a : Aloft). a.flight) aloft → SessionStands sealed signed hashed seed names f c t (record p { flight = flight })
-  ahead_stands f c p s t aloft flight h g same running flies =
+      → StaysIn (known_in s.cache (get f.blocks)) (known_in t.cache (get f.blocks)) → flight ≡ option_map (λ (a : Aloft). a.flight) aloft → SessionStands sealed signed hashed seed names f c t (record p { flight = flight })
+  ahead_stands f c p s t aloft flight h g same running more flies =
       let journal : t.journal ≡ s.journal = ap (λ (x : Inside). x.journal) same in
       let generation : t.generation ≡ s.generation = ap (λ (x : Inside). x.generation) same in
       let ring : t.ring ≡ s.ring = ap (λ (x : Inside). x.ring) same in
       let queue : t.journal.queue ≡ g.op ∷ g.rest = ap (λ j. j.queue) journal ∙ g.queue in
       let old : s.base ≡ fold_ops (take s.ahead (g.op ∷ g.rest)) p.base = subst (λ l. s.base ≡ fold_ops (take s.ahead l) p.base) g.queue h.base in
-      let new : t.base ≡ fold_ops (g.op ∷ []) p.base = done_base g.op g.rest p.base s.ahead t.ahead s.base t.base s.kept t.kept g.done old in
+      let new : t.base ≡ fold_ops (g.op ∷ []) p.base = done_base g.op g.rest p.base s.ahead t.ahead s.base t.base s.kept t.kept s.written t.written g.done old in
+      let vault = Opens sealed hashed (known_in s.cache (get f.blocks)) (keys_to seed s.generation) in
       let r = h.remembers in
       record {
         at = record { session = h.at.session; journal_is = h.at.journal_is ∙ ap (λ j. plain j ∷ []) (sym journal) };
@@ -122,12 +145,20 @@ module _ (sealed signed : List ℕ → List ℕ → List ℕ) (hashed : List ℕ
           within = subst (λ j. j.known ≤ length c) (sym journal) r.within;
           hash_is = ap (λ j. j.hash) journal ∙ r.hash_is ∙ ap (λ j. hash_at f.revisions j.known) (sym journal);
           generation_is = generation ∙ r.generation_is ∙ ap (λ j. generation_from 0 (take j.known c)) (sym journal);
-          held = subst (λ n. AllHold (Opens sealed hashed (get f.blocks) (keys_to seed n)) (look (tree_at c t.journal.known)) t.kept) (sym generation)
-              (subst (λ j. AllHold (Opens sealed hashed (get f.blocks) (keys_to seed s.generation)) (look (tree_at c j.known)) t.kept) (sym journal)
-              (done_kept sealed hashed seed f s.generation (tree_at c s.journal.known) g.op s.ahead t.ahead s.base t.base s.kept t.kept g.done r.held));
+          held = subst (λ n. AllHold (Opens sealed hashed (known_in t.cache (get f.blocks)) (keys_to seed n)) (look (tree_at c t.journal.known)) t.kept) (sym generation)
+              (subst (λ j. AllHold (Opens sealed hashed (known_in t.cache (get f.blocks)) (keys_to seed s.generation)) (look (tree_at c j.known)) t.kept) (sym journal)
+              (all_within sealed hashed (known_in s.cache (get f.blocks)) (known_in t.cache (get f.blocks)) (keys_to seed s.generation) (look (tree_at c s.journal.known)) t.kept more
+              (done_kept vault (tree_at c s.journal.known) g.op s.ahead t.ahead s.base t.base s.kept t.kept s.written t.written g.done r.held)));
         };
-        held = subst (λ n. AllHold (Opens sealed hashed (get f.blocks) (keys_to seed n)) (look t.base) t.kept) (sym generation)
-            (done_held sealed hashed seed f s.generation g.op s.ahead t.ahead s.base t.base s.kept t.kept g.done h.held);
+        held = subst (λ n. AllHold (Opens sealed hashed (known_in t.cache (get f.blocks)) (keys_to seed n)) (look t.base) t.kept) (sym generation)
+            (all_within sealed hashed (known_in s.cache (get f.blocks)) (known_in t.cache (get f.blocks)) (keys_to seed s.generation) (look t.base) t.kept more
+            (done_held vault g.op s.ahead t.ahead s.base t.base s.kept t.kept s.written t.written g.done h.held));
+        written = λ op rest old queue' one is.
+            let first : g.op ≡ op = (let e : g.op ∷ g.rest ≡ op ∷ rest = sym queue ∙ queue' in cc) in
+            subst (λ n. IsOldOf (Opens sealed hashed (known_in t.cache (get f.blocks)) (keys_to seed n)) t.base op.change old) (sym generation)
+            (old_within sealed hashed (known_in s.cache (get f.blocks)) (known_in t.cache (get f.blocks)) (keys_to seed s.generation) t.base op.change old more
+            (subst (λ (o : Op). IsOldOf vault t.base o.change old) first
+            (done_written vault g.op s.ahead t.ahead s.base t.base s.kept t.kept s.written t.written g.done h.held (λ old one is. h.written g.op g.rest old g.queue one is) old is)));
         ring = λ n. ap (λ k. key_at k n) ring ∙ h.ring n ∙ ap (λ k. keys_to seed k n) (sym generation);
         flight = flies ∙ ap (option_map (λ (a : Aloft). a.flight)) (sym (ap (λ (x : Inside). x.aloft) same));
         plan = h.plan ∙ ap (option_map (λ (x : Plan). x.number)) (sym (ap (λ (x : Inside). x.plan) same));
@@ -177,7 +208,7 @@ module _ (sealed signed : List ℕ → List ℕ → List ℕ) (hashed : List ℕ
       m = at_journal d c p j part session.at.journal_is
 
       after : SessionStands sealed signed hashed seed names f c t (record p { flight = Some flight })
-      after = ahead_stands f c p s t (Some picks.aloft) (Some flight) session g picks.session running (ap Some (sym picks.made.flight))
+      after = ahead_stands f c p s t (Some picks.aloft) (Some flight) session g picks.session running (known_taken hashed s.cache t.cache picked.request.blocks (get f.blocks) picks.takes) (ap Some (sym picks.made.flight))
 
       journal : t.journal ≡ s.journal
       journal = ap (λ (x : Inside). x.journal) picks.session
@@ -206,25 +237,32 @@ module _ (sealed signed : List ℕ → List ℕ → List ℕ) (hashed : List ℕ
         part = refl;
       }
 
-      knows : flight.number ≡ length c + 1 → KnowsFolder sealed hashed seed f c t.generation t.journal.hash t.base t.kept
+      knows : flight.number ≡ length c + 1 → KnowsStep sealed hashed seed f c t.generation t.journal.hash t.base picks.left g.op.change s.cache t.written
       knows next =
           let r = after.remembers in
           let known : t.journal.known ≡ length c = ap (λ k. k.known) journal ∙ (let n = number_is in let e : j.known ≡ length c = omega (arith, n, next) in e) in
           record {
             head_is = r.hash_is ∙ head_known f.revisions t.journal.known (known ∙ chain_length sealed signed hashed seed names f c has);
             generation_is = r.generation_is ∙ ap (generation_from 0) (take_all t.journal.known c (omega (arith, known)));
-            held = after.held;
+            few = known_in s.cache (get f.blocks);
+            cached = known_cached s.cache (get f.blocks);
+            within = known_there s.cache (get f.blocks);
+            grounds = grounds_of f c p s t picks.left session g picks.leaves generation;
           }
+
+      ring_is : key_at t.ring ≡ keys_to seed t.generation
+      ring_is = λ i n. after.ring n i
 
       key_is : picks.made.key ≡ folder_key seed t.generation
       key_is = ring_key seed t.generation t.ring after.ring running.first picks.made.key picks.made.keyed
 
       tree_is : t.base ≡ fold_ops (g.op ∷ []) p.base
-      tree_is = done_base g.op g.rest p.base s.ahead t.ahead s.base t.base s.kept t.kept g.done (subst (λ l. s.base ≡ fold_ops (take s.ahead l) p.base) g.queue session.base)
+      tree_is = done_base g.op g.rest p.base s.ahead t.ahead s.base t.base s.kept t.kept s.written t.written g.done (subst (λ l. s.base ≡ fold_ops (take s.ahead l) p.base) g.queue session.base)
 
-      made : IsStepRequest sealed signed hashed (device_secret seed d) (folder_key seed t.generation) t.generation flight.number t.journal.hash g.op t.base t.kept picked.request
-      made = subst (λ secret. IsStepRequest sealed signed hashed secret (folder_key seed t.generation) t.generation flight.number t.journal.hash g.op t.base t.kept picked.request) h.secret
-          (subst (λ key. IsStepRequest sealed signed hashed old.secret key t.generation flight.number t.journal.hash g.op t.base t.kept picked.request) key_is picks.made.made)
+      made : IsStepRequest sealed signed hashed (device_secret seed d) (folder_key seed t.generation) t.generation flight.number t.journal.hash g.op t.base picks.left s.cache (keys_to seed t.generation) t.written picked.request
+      made = subst (λ secret. IsStepRequest sealed signed hashed secret (folder_key seed t.generation) t.generation flight.number t.journal.hash g.op t.base picks.left s.cache (keys_to seed t.generation) t.written picked.request) h.secret
+          (subst (λ ring. IsStepRequest sealed signed hashed old.secret (folder_key seed t.generation) t.generation flight.number t.journal.hash g.op t.base picks.left s.cache ring t.written picked.request) ring_is
+          (subst (λ key. IsStepRequest sealed signed hashed old.secret key t.generation flight.number t.journal.hash g.op t.base picks.left s.cache (key_at t.ring) t.written picked.request) key_is picks.made.made))
 
       pub goes : (q : Part) × (ask : Ask) × PickStep 1 d old.name p (Ok (flight, ask)) q × IsFor sealed signed hashed seed names f picked.request ask × DeviceStands sealed signed hashed seed names d f c new q
       goes =
@@ -232,7 +270,7 @@ module _ (sealed signed : List ℕ → List ℕ → List ℕ) (hashed : List ℕ
             record p { flight = Some flight },
             ask,
             step old.name ask (ap (λ n. ask_of d n j flight) (sym h.name)),
-            law f c d p (record p { flight = Some flight }) flight ask g.op g.rest t.generation t.journal.hash t.base t.kept picked.request has part (step (names d) ask refl) g.queue tree_is h.registered knows made,
+            law f c d p (record p { flight = Some flight }) flight ask g.op g.rest t.generation t.journal.hash t.base picks.left s.cache t.written picked.request has part (step (names d) ask refl) g.queue tree_is h.registered knows made,
             with_session d f c old p (Some flight) t h after,
           )
 
@@ -241,7 +279,7 @@ module _ (sealed signed : List ℕ → List ℕ → List ℕ) (hashed : List ℕ
 
   -- ---- want of memory
 
-  pub ahead_stays : (old : Member) (s t : Inside) → old.inside ≡ Some s → IsRunning t → GoesAhead s t → t ≡ with_flight s t s.aloft → DeviceStays sealed signed hashed seed names old.number old (record old { inside = Some t })
-  ahead_stays old s t was running g same f c p h =
+  pub ahead_stays : (old : Member) (s t : Inside) → old.inside ≡ Some s → IsRunning t → GoesAhead s t → t ≡ with_flight s t s.aloft → t.cache ≡ s.cache → DeviceStays sealed signed hashed seed names old.number old (record old { inside = Some t })
+  ahead_stays old s t was running g same cache f c p h =
       let session = inside_at old.number f c old p s was h in
-      with_session old.number f c old p p.flight t h (ahead_stands f c p s t s.aloft p.flight session g same running session.flight)
+      with_session old.number f c old p p.flight t h (ahead_stands f c p s t s.aloft p.flight session g same running (λ id b at. ap (λ (m : Cache). known_in m (get f.blocks) id) cache ∙ at) session.flight)

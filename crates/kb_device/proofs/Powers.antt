@@ -38,7 +38,7 @@ use Rattle.kb_device.proofs.Picks.{inside_at, closed_at}
 use Rattle.kb_device.proofs.Views.{rest_view}
 
 -- a session that is the same as plain values goes on
-pub runs_same : {D : Type 0} (d : ℕ) (s t : Session D) → Runs d s → inside t ≡ inside s → t.journal.is_open ≡ s.journal.is_open → (x : Session D) → Some t ≡ Some x → Runs d x
+pub runs_same : {D H : Type 0} (d : ℕ) (s t : Session D H) → Runs d s → inside t ≡ inside s → t.journal.is_open ≡ s.journal.is_open → (x : Session D H) → Some t ≡ Some x → Runs d x
 runs_same d s t r same opened x is = (let e : t ≡ x = cc in subst (Runs d) e (record { running = subst IsRunning (sym same) r.running; owned = subst (IsOwned d) (sym same) r.owned; opened = opened ∙ r.opened }))
 
 -- ---- disks
@@ -99,6 +99,7 @@ module _ (sealed signed : List ℕ → List ℕ → List ℕ) (hashed : List ℕ
     role = h.role;
     remembers = h.remembers;
     held = h.held;
+    written = h.written;
     ring = h.ring;
     flight = h.flight;
     plan = h.plan;
@@ -140,12 +141,12 @@ module _ (sealed signed : List ℕ → List ℕ → List ℕ) (hashed : List ℕ
   changed R (Some x) None disk h is = absurd h
   changed {D} R (Some x) (Some y) disk h is = let same : x ≡ disk = cc in (y, refl, subst (λ (z : D). R z y) same h)
 
-  rest_is : {D : Type 0} (resting : Option D) (session : Option (Session D)) (disk : D) → session ≡ None → disk_in resting session ≡ Some disk → resting ≡ Some disk
+  rest_is : {D H : Type 0} (resting : Option D) (session : Option (Session D H)) (disk : D) → session ≡ None → disk_in resting session ≡ Some disk → resting ≡ Some disk
   rest_is (Some x) session disk none has = has
   rest_is None None disk none has = cc
   rest_is None (Some s) disk none has = cc
 
-  rested_is : {D : Type 0} (resting : Option D) (session : Option (Session D)) (disk : D) → is_some resting ≡ not (is_some session) → disk_in resting session ≡ Some disk → rested session resting ≡ Some disk
+  rested_is : {D H : Type 0} (resting : Option D) (session : Option (Session D H)) (disk : D) → is_some resting ≡ not (is_some session) → disk_in resting session ≡ Some disk → rested session resting ≡ Some disk
   rested_is (Some x) None disk one has = has
   rested_is None (Some s) disk one has = has
   rested_is (Some x) (Some s) disk one has = cc
@@ -171,10 +172,10 @@ module _ (sealed signed : List ℕ → List ℕ → List ℕ) (hashed : List ℕ
             disk = refl;
             inside_is = view.inside_is ∙ sym same;
           },
-          (arms_go v (platter disks is) steps (subst (λ (x : Platter). IsArmed steps x (platter disks is)) (sym disk) h), record { sent = λ request h. h; answer = λ f answer h. h }),
+          (arms_go v (platter disks is) steps (subst (λ (x : Platter). IsArmed steps x (platter disks is)) (sym disk) h), record { sent = λ f request h. h; answer = λ f answer h. h }),
         )
 
-    pub fuses_session : (v : Member) (steps : ℕ) (s t : Session D) → old.resting ≡ None → old.session ≡ Some s → new.resting ≡ None → new.session ≡ Some t → inside t ≡ inside s → IsArmed steps (platter disks s.journal.disk) (platter disks t.journal.disk)
+    pub fuses_session : (v : Member) (steps : ℕ) (s t : Session D H) → old.resting ≡ None → old.session ≡ Some s → new.resting ≡ None → new.session ≡ Some t → inside t ≡ inside s → IsArmed steps (platter disks s.journal.disk) (platter disks t.journal.disk)
         → IsView old v → (w : Member) × IsView new w × Fuses steps v w
     fuses_session v steps s t rests was rests' is same h view =
         armed_view v steps s.journal.disk t.journal.disk (λ i. disk_in (rests i) (was i)) (λ i. disk_in (rests' i) (is i)) (ap (option_map inside) is ∙ ap Some same ∙ ap (option_map inside) (sym was)) h view

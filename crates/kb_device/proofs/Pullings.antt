@@ -25,6 +25,7 @@ use Rattle.kb_folder.specs.Goes.{HasChain}
 use Rattle.kb_device.specs.Inside.{Aloft, Plan, Inside, IsRunning}
 use Rattle.kb_device.specs.Stands.{Platter, Member, hashes_of, SessionStands, DeviceStands}
 use Rattle.kb_device.specs.Noting.{Writes, Stops}
+use Rattle.kb_device.specs.Caches.{known_in}
 use Rattle.kb_device.specs.Heads.{Read, ReadStands}
 use Rattle.kb_device.specs.Pulling.{headed, with_head}
 use Rattle.kb_device.proofs.Longer.{chain_length}
@@ -95,7 +96,8 @@ module _ (sealed signed : List ℕ → List ℕ → List ℕ) (hashed : List ℕ
             shown = stands.tree;
             role = refl;
             remembers = stands.remembers;
-            held = subst (λ t. AllHold (Opens sealed hashed (get f.blocks) (keys_to seed r.generation)) (look t) r.kept) (sym stands.tree) stands.remembers.held;
+            held = subst (λ t. AllHold (Opens sealed hashed (known_in r.cache (get f.blocks)) (keys_to seed r.generation)) (look t) r.kept) (sym stands.tree) stands.remembers.held;
+            written = λ op rest old queue one is. cc;
             ring = stands.ring;
             flight = session.flight;
             plan = session.plan;

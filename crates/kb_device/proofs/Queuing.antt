@@ -1,5 +1,5 @@
 -- A session with one more operation in its queue.
-use Rattle.std.proofs.Common.{◌≡◌, List, [], ◌∷◌, ◌++◌, drop, refl, sym, ap, subst, ◌∙◌, arith, length-append}
+use Rattle.std.proofs.Common.{◌≡◌, ℕ, ◌≤◌, length, List, [], ◌∷◌, ◌++◌, drop, refl, sym, ap, subst, ◌∙◌, arith, length-append}
 use Rattle.std.specs.List.{AllByRecursion}
 use Rattle.std.proofs.lemmas.List.{drop-append-le}
 use Rattle.kb_ops.specs.declared.rows.Op.{Op}
@@ -39,3 +39,8 @@ running_queued s op r fits proper =
 -- it goes on
 pub running_next : (s t : Inside) (op : Op) → IsRunning s → Fits op s.shown → IsProper op → t ≡ with_queued s op → IsRunning t
 running_next s t op r fits proper same = subst IsRunning (sym same) (running_queued s op r fits proper)
+
+-- the first of a queue stays the first
+pub first_pushed : (ops : List Op) (op first : Op) (rest : List Op) → 1 ≤ length ops → ops ++ op ∷ [] ≡ first ∷ rest → (more : List Op) × (ops ≡ first ∷ more)
+first_pushed [] op first rest some e = absurd (omega (arith, some))
+first_pushed (o ∷ ops) op first rest some e = (ops, (let same : o ≡ first = cc in ap (λ x. x ∷ ops) same))

@@ -33,6 +33,8 @@ use Rattle.kb_folder.specs.Stands.{Revisions, keys_to}
 use Rattle.kb_folder.specs.Puts.{Held, Puts}
 use Rattle.kb_folder.specs.Goes.{HasChain, IsFor, Grows, Means, PutsGo, PutsMean}
 use Rattle.kb_folder.proofs.Goes.{lawful_chain}
+use Rattle.kb_device.specs.Caches.{Cache, known_in, Takes}
+use Rattle.kb_device.proofs.Shared.{known_there, known_taken, all_within}
 use Rattle.kb_device.specs.Answers as says
 use Rattle.kb_device.specs.Disks as front
 use Rattle.kb_device.specs.Disks.{IsKept}
@@ -46,7 +48,7 @@ use Rattle.kb_device.specs.Noting.{Writes, Stops}
 use Rattle.kb_device.specs.Parts.{Merger, IsMerger, Part, HasPlan, SettleStep, merge_ask, report_at, tree_shown, ended}
 use Rattle.kb_device.specs.Remembering.{Remembers}
 use Rattle.kb_device.specs.Resolving.{merger_of, MaySettle, SettleGoes, Tells, SettleAnswers, StaysOwned}
-use Rattle.kb_device.specs.Settling.{resolved, with_merge, IsMergeOf, report_of, Asks, Settles, SettleBreaks, Drops, Stays, SettleDoes, UnlessStopped, is_stopped}
+use Rattle.kb_device.specs.Settling.{grown, resolved, with_merge, IsMergeOf, report_of, Asks, Settles, SettleBreaks, Drops, Stays, SettleDoes, UnlessStopped, is_stopped}
 use Rattle.kb_device.specs.SettlesFor.{branch_at, SettlesAreFor}
 use Rattle.kb_device.specs.Stands.{Platter, Member, PlanStands, hashes_of, DiskStands, SessionStands, DeviceStands}
 use Rattle.kb_device.specs.declared.settled.SettleFault.{SettleFault}
@@ -164,16 +166,16 @@ module _ (sealed signed : List ℕ → List ℕ → List ℕ) (hashed : List ℕ
       did_is : report_of d old.name moment s x ≡ report_at d by p c j x.number
       did_is = λ i. report ((stands.base ∙ sym ss.base) i) (stands.merged i) (session.shown i) (stamp_with old.name)
 
-      -- the pointers that the merge leaves hold their rows in the folder
-      left_held : AllHold (Opens sealed hashed (get f.blocks) (keys_to seed x.generation)) (look tree) a.asked.left
-      left_held = left_hold (Opens sealed hashed (get f.blocks) (keys_to seed x.generation)) x.merged tree x.kept a.asked.left a.asked.leaves
-          (subst (λ u. AllHold (Opens sealed hashed (get f.blocks) (keys_to seed x.generation)) (look u) x.kept) (sym stands.merged) stands.remembers.held)
+      -- the pointers that the merge leaves hold their rows in blocks that the plan's cache and the folder have
+      left_held : AllHold (Opens sealed hashed (known_in x.cache (get f.blocks)) (keys_to seed x.generation)) (look tree) a.asked.left
+      left_held = left_hold (Opens sealed hashed (known_in x.cache (get f.blocks)) (keys_to seed x.generation)) x.merged tree x.kept a.asked.left a.asked.leaves
+          (subst (λ u. AllHold (Opens sealed hashed (known_in x.cache (get f.blocks)) (keys_to seed x.generation)) (look u) x.kept) (sym stands.merged) stands.remembers.held)
 
       knows : x.number ≡ length c → KnowsFolder sealed hashed seed f c x.generation x.hash tree a.asked.left
       knows end = record {
         head_is = stands.remembers.hash_is ∙ head_known f.revisions x.number (end ∙ chain_length sealed signed hashed seed names f c may.has);
         generation_is = stands.remembers.generation_is ∙ ap (generation_from 0) (take_all x.number c (omega (arith, end)));
-        held = left_held;
+        held = all_within sealed hashed (known_in x.cache (get f.blocks)) (get f.blocks) (keys_to seed x.generation) (look tree) a.asked.left (known_there x.cache (get f.blocks)) left_held;
       }
 
       abbrev ask : Ask
@@ -238,9 +240,9 @@ module _ (sealed signed : List ℕ → List ℕ → List ℕ) (hashed : List ℕ
       abbrev hash : List ℕ
       hash = sha256 a.request.revision
 
-      remembers : Remembers sealed hashed seed g longer n hash a.plan.generation a.pointers
-      remembers = subst (λ k. Remembers sealed hashed seed g longer k hash a.plan.generation a.pointers) (sym end)
-          (remembers_taken sealed signed hashed seed names f g c y a.request number a.plan.generation tree a.asked.left a.pointers may.has a.put (tree_now ∙ ap (tree_at longer) end) generation_now (low t now (Ok number) a)
+      remembers : Remembers sealed hashed seed g longer n hash a.plan.generation a.pointers a.cache
+      remembers = subst (λ k. Remembers sealed hashed seed g longer k hash a.plan.generation a.pointers a.cache) (sym end)
+          (remembers_taken sealed signed hashed seed names f g c y a.request number a.plan.generation tree a.asked.left a.pointers a.plan.cache a.cache may.has a.put (tree_now ∙ ap (tree_at longer) end) generation_now (low t now (Ok number) a) a.takes
           (left_held t now (Ok number) a)
           (subst (λ k. OnceAllStored hashed sealed a.plan.generation k a.request.blocks (λ vault. AllHold vault (look tree) a.asked.left → AllHold vault (look tree) a.pointers)) (key_is t now (Ok number) a) a.asked.holds))
 
@@ -279,7 +281,7 @@ module _ (sealed signed : List ℕ → List ℕ → List ℕ) (hashed : List ℕ
         by_aloft None e = e
         by_aloft (Some x) e = (let marked = (ss.plan a.plan.number (plan_is t now (Ok number) a)).0 in let clear = (session.running.aloft x e).clear in let no : true ≡ false = sym marked ∙ clear in cc)
 
-      settled_session : (left : Option ℕ) → IsRunning (with_merge s a.plan tree a.pointers hash (role_at g.state.policy.0 d)) → SessionStands sealed signed hashed seed names g longer (with_merge s a.plan tree a.pointers hash (role_at g.state.policy.0 d)) (settled_part left)
+      settled_session : (left : Option ℕ) → IsRunning (with_merge s (grown a.plan a.cache) tree a.pointers hash (role_at g.state.policy.0 d)) → SessionStands sealed signed hashed seed names g longer (with_merge s (grown a.plan a.cache) tree a.pointers hash (role_at g.state.policy.0 d)) (settled_part left)
       settled_session left running = record {
         at = record { session = session.at.session; journal_is = refl };
         running = running;
@@ -287,7 +289,8 @@ module _ (sealed signed : List ℕ → List ℕ → List ℕ) (hashed : List ℕ
         shown = running.shown ∙ ap (fold_ops after.queue) tree_now;
         role = role_now;
         remembers = remembers;
-        held = subst (λ u. AllHold (Opens sealed hashed (get g.blocks) (keys_to seed a.plan.generation)) (look u) a.pointers) (sym tree_now) remembers.held;
+        held = subst (λ u. AllHold (Opens sealed hashed (known_in a.cache (get g.blocks)) (keys_to seed a.plan.generation)) (look u) a.pointers) (sym tree_now) remembers.held;
+        written = λ op rest old queue one is. cc;
         ring = (stands t now (Ok number) a).ring;
         flight = session.flight ∙ ap (option_map (λ (z : _). z.flight)) idle;
         plan = refl;
@@ -320,7 +323,7 @@ module _ (sealed signed : List ℕ → List ℕ → List ℕ) (hashed : List ℕ
       device_closed : (q : Part) → DiskStands g.revisions now q → q.is_open ≡ false → DeviceStands sealed signed hashed seed names d g longer (record old { disk = now; inside = None }) q
       device_closed q disk closed = record { number = refl; name = may.stands.name; secret = may.stands.secret; registered = registered; disk = disk; session = closed }
 
-      pub settles_go : (role_is : t ≡ with_merge s a.plan tree a.pointers hash (role_at g.state.policy.0 d)) → Writes after old.disk now → IsRunning t
+      pub settles_go : (role_is : t ≡ with_merge s (grown a.plan a.cache) tree a.pointers hash (role_at g.state.policy.0 d)) → Writes after old.disk now → IsRunning t
           → (answer : Result (ℕ × Report) says.SettleFault) × (c' : Chain) × (q : Part) × Tells sealed signed hashed seed names moment f old tree g (record old { disk = now; inside = Some t }) (Ok n) answer × SettleStep d by c p answer c' q × Grows f g × HasChain sealed signed hashed seed names g c'
           × DeviceStands sealed signed hashed seed names d g c' (record old { disk = now; inside = Some t }) q
       settles_go same w running = (
@@ -402,6 +405,7 @@ module _ (sealed signed : List ℕ → List ℕ → List ℕ) (hashed : List ℕ
           role = session.role;
           remembers = session.remembers;
           held = session.held;
+          written = session.written;
           ring = session.ring;
           flight = session.flight;
           plan = refl;
@@ -431,6 +435,37 @@ module _ (sealed signed : List ℕ → List ℕ → List ℕ) (hashed : List ℕ
       unchanged t now stays.folder stays.session stays.disk,
     )
 
+  -- the plan's cache took some blocks
+  filled_session : (f : Held) (c : Chain) (p : Part) (x : Plan) → s.plan ≡ Some x → (made : List (List ℕ)) (cache : Cache) → Takes hashed x.cache made cache → IsRunning (record s { plan = Some (grown x cache) }) → SessionStands sealed signed hashed seed names f c s p
+      → SessionStands sealed signed hashed seed names f c (record s { plan = Some (grown x cache) }) p
+  filled_session f c p x planned made cache takes running session =
+      let y = session.planned x planned in
+      let r = y.remembers in
+      record {
+        at = record { session = session.at.session; journal_is = session.at.journal_is };
+        running = running;
+        base = session.base;
+        shown = session.shown;
+        role = session.role;
+        remembers = session.remembers;
+        held = session.held;
+        written = session.written;
+        ring = session.ring;
+        flight = session.flight;
+        plan = session.plan ∙ ap (option_map (λ (z : Plan). z.number)) planned;
+        planned = λ z is. subst (PlanStands sealed hashed seed f c s.journal.known) (let e : Some (grown x cache) ≡ Some z = is in let same : grown x cache ≡ z = cc in same) (record {
+          merged = y.merged;
+          remembers = record {
+            within = r.within;
+            hash_is = r.hash_is;
+            generation_is = r.generation_is;
+            held = all_within sealed hashed (known_in x.cache (get f.blocks)) (known_in cache (get f.blocks)) (keys_to seed x.generation) (look (tree_at c x.number)) x.kept (known_taken hashed x.cache cache made (get f.blocks) takes) r.held;
+          };
+          ring = y.ring;
+          base = y.base;
+        });
+      }
+
   -- ---- the answers
 
   pub settle_answers : (t : Inside) (now : Platter) (r : Result ℕ SettleFault) → SettleDoes sealed signed hashed f g d old.secret moment tree s old.disk t now r → UnlessStopped r (IsRunning t)
@@ -441,7 +476,14 @@ module _ (sealed signed : List ℕ → List ℕ → List ℕ) (hashed : List ℕ
       (went.0, went.1, went.2, (told.0, told.1, told.2, told.3, told.4 ∙ ap (λ k. Ok (k, report_of d old.name moment told.0 told.1)) (sym does.n_is)), went.4, went.5, went.6, went.7)
   settle_answers t now (Err fault.Closed) does running = absurd does
   settle_answers t now (Err fault.NoPlan) does running = λ c p may. no_plan_goes c p may t now does.0 does.1
-  settle_answers t now (Err fault.Memory) does running = (
+  settle_answers t now (Err fault.Memory) (inr does) running = (
+    does.folder,
+    λ c p h.
+        let session = inside_at sealed signed hashed seed names d f c old p s was h in
+        stands_with sealed signed hashed seed names d f c old p p now t h (subst (λ (x : Platter). DiskStands f.revisions x p) (sym does.disk) h.disk)
+        (subst (λ u. SessionStands sealed signed hashed seed names f c u p) (sym does.session) (filled_session f c p does.plan does.planned does.made does.cache does.takes (subst IsRunning does.session running) session)),
+  )
+  settle_answers t now (Err fault.Memory) (inl does) running = (
     does.folder,
     λ c p h.
         let session = inside_at sealed signed hashed seed names d f c old p s was h in
@@ -462,7 +504,8 @@ module _ (sealed signed : List ℕ → List ℕ → List ℕ) (hashed : List ℕ
       })
   settle_owned t now (Err fault.Closed) does c p may owned = absurd does
   settle_owned t now (Err fault.NoPlan) does c p may owned = subst (IsOwned d) (sym does.0.session) owned
-  settle_owned t now (Err fault.Memory) does c p may owned = subst (IsOwned d) (sym does.session) owned
+  settle_owned t now (Err fault.Memory) (inl does) c p may owned = subst (IsOwned d) (sym does.session) owned
+  settle_owned t now (Err fault.Memory) (inr does) c p may owned = subst (IsOwned d) (sym does.session) (record { own = owned.own; fresh = owned.fresh })
   settle_owned t now (Err (fault.ByPut refusal)) does c p may owned = subst (IsOwned d) (sym does.session) (record { own = owned.own; fresh = owned.fresh })
   settle_owned t now (Err fault.Stopped) does c p may owned = tt
 

@@ -9,6 +9,7 @@ use Rattle.kb_keys.specs.Rings.{key_at}
 use Rattle.kb_snap.specs.Pointers.{Kept}
 use Rattle.kb_device.specs.Inside.{Aloft, Inside, IsRunning, HasDone}
 use Rattle.kb_device.specs.Picking.{GoesAhead, with_flight}
+use Rattle.kb_device.specs.declared.patching.OldFile.{OldFile}
 
 -- the next operation fits the base table, where that isn't ahead
 pub fits_next : (s : Inside) (op : Op) (rest : List Op) → IsRunning s → s.journal.queue ≡ op ∷ rest → s.ahead ≡ 0 → Fits op s.base
@@ -16,15 +17,15 @@ fits_next s op rest r queue none =
     let h : FitAll (drop 0 (op ∷ rest)) s.base = subst (λ l. FitAll (drop 0 l) s.base) queue (subst (λ n. FitAll (drop n s.journal.queue) s.base) none r.fit) in
     h.0
 
-rest_fits : (op : Op) (rest : List Op) (ahead ahead' : ℕ) (base base' : Tree) (kept kept' : Kept) → HasDone op ahead ahead' base base' kept kept' → FitAll (drop ahead (op ∷ rest)) base → FitAll rest base'
-rest_fits op rest ahead ahead' base base' kept kept' d fit = elim d.does [
+rest_fits : (op : Op) (rest : List Op) (ahead ahead' : ℕ) (base base' : Tree) (kept kept' : Kept) (written written' : Option OldFile) → HasDone op ahead ahead' base base' kept kept' written written' → FitAll (drop ahead (op ∷ rest)) base → FitAll rest base'
+rest_fits op rest ahead ahead' base base' kept kept' written written' d fit = elim d.does [
   | inl (one, same, _) ↦ subst (λ t. FitAll rest t) (sym same) (subst (λ n. FitAll (drop n (op ∷ rest)) base) one fit)
   | inr (none, fits, does, _) ↦ subst (λ t. FitAll rest t) (sym does) (subst (λ n. FitAll (drop n (op ∷ rest)) base) none fit).1
 ]
 
 -- and makes the same tree
-rest_makes : (op : Op) (rest : List Op) (ahead ahead' : ℕ) (base base' : Tree) (kept kept' : Kept) → HasDone op ahead ahead' base base' kept kept' → fold_ops (drop ahead (op ∷ rest)) base ≡ fold_ops rest base'
-rest_makes op rest ahead ahead' base base' kept kept' d = elim d.does [
+rest_makes : (op : Op) (rest : List Op) (ahead ahead' : ℕ) (base base' : Tree) (kept kept' : Kept) (written written' : Option OldFile) → HasDone op ahead ahead' base base' kept kept' written written' → fold_ops (drop ahead (op ∷ rest)) base ≡ fold_ops rest base'
+rest_makes op rest ahead ahead' base base' kept kept' written written' d = elim d.does [
   | inl (one, same, _) ↦ ap (λ n. fold_ops (drop n (op ∷ rest)) base) one ∙ ap (fold_ops rest) (sym same)
   | inr (none, fits, does, _) ↦ ap (λ n. fold_ops (drop n (op ∷ rest)) base) none ∙ ap (fold_ops rest) (sym does)
 ]
@@ -43,8 +44,8 @@ running_ahead s t aloft r clear g same flies =
       proper = subst (λ l. AllByRecursion IsProper l) (sym (ap (λ j. j.queue) journal)) r.proper;
       few = omega arith;
       ahead = subst (λ l. t.ahead ≤ length l) (sym queue) (let some : 1 ≤ length (g.op ∷ g.rest) = omega arith in omega arith);
-      fit = subst (λ n. FitAll (drop n t.journal.queue) t.base) (sym one) (subst (λ l. FitAll (drop 1 l) t.base) (sym queue) (rest_fits g.op g.rest s.ahead t.ahead s.base t.base s.kept t.kept g.done (subst (λ l. FitAll (drop s.ahead l) s.base) g.queue r.fit)));
-      shown = ap (λ (x : Inside). x.shown) same ∙ r.shown ∙ ap (λ l. fold_ops (drop s.ahead l) s.base) g.queue ∙ rest_makes g.op g.rest s.ahead t.ahead s.base t.base s.kept t.kept g.done
+      fit = subst (λ n. FitAll (drop n t.journal.queue) t.base) (sym one) (subst (λ l. FitAll (drop 1 l) t.base) (sym queue) (rest_fits g.op g.rest s.ahead t.ahead s.base t.base s.kept t.kept s.written t.written g.done (subst (λ l. FitAll (drop s.ahead l) s.base) g.queue r.fit)));
+      shown = ap (λ (x : Inside). x.shown) same ∙ r.shown ∙ ap (λ l. fold_ops (drop s.ahead l) s.base) g.queue ∙ rest_makes g.op g.rest s.ahead t.ahead s.base t.base s.kept t.kept s.written t.written g.done
           ∙ ap (λ l. fold_ops (drop 1 l) t.base) (sym queue) ∙ ap (λ n. fold_ops (drop n t.journal.queue) t.base) (sym one);
       first = subst (λ n. 1 ≤ n) (sym generation) r.first;
       last = subst (λ n. n ≤ 64) (sym generation) r.last;

@@ -36,7 +36,7 @@ use Rattle.kb_device.proofs.Longer.{chain_length}
 use Rattle.kb_device.proofs.Hashes.{same_hash}
 use Rattle.kb_device.proofs.Picks.{inside_at, closed_at}
 use Rattle.kb_device.proofs.Notings.{writes_stand, stops_stand, stands_with, stands_closed}
-use Rattle.kb_device.proofs.Queuing.{fold_push}
+use Rattle.kb_device.proofs.Queuing.{fold_push, first_pushed}
 
 some_is : {A : Type 0} (x y : A) → Some x ≡ Some y → x ≡ y
 some_is x y e = cc
@@ -88,6 +88,11 @@ module _ (sealed signed : List ℕ → List ℕ → List ℕ) (hashed : List ℕ
             role = session.role;
             remembers = record { within = r.within; hash_is = r.hash_is; generation_is = r.generation_is; held = r.held };
             held = session.held;
+            written = λ first rest old queue one is.
+                let le = session.running.ahead in
+                let some : 1 ≤ length s.journal.queue = omega (arith, one, le) in
+                let was = first_pushed s.journal.queue op first rest some queue in
+                session.written first was.0 old was.1 one is;
             ring = session.ring;
             flight = session.flight;
             plan = refl;
@@ -155,9 +160,10 @@ module _ (sealed signed : List ℕ → List ℕ → List ℕ) (hashed : List ℕ
     waits_by k shown plan same =
         let y : Inside = record s { journal = k; shown = shown; plan = plan } in
         record {
-          sent = λ request h x a is flies.
+          sent = λ f request h x a is flies.
               let to : y ≡ x = sym same ∙ some_is t x is in
-              subst (λ z. IsRequestOf sealed hashed seed request z a) to (h s a was (ap (λ (z : Inside). z.aloft) to ∙ flies));
+              let r = h s a was (ap (λ (z : Inside). z.aloft) to ∙ flies) in
+              subst (λ z. IsRequestOf sealed hashed seed f request z a) to (record { few = r.few; within = r.within; cached = r.cached; holds = r.holds });
           answer = λ f answer h x a n is flies ok.
               let to : y ≡ x = sym same ∙ some_is t x is in
               let l = h s a n was (ap (λ (z : Inside). z.aloft) to ∙ flies) ok in
@@ -177,7 +183,7 @@ module _ (sealed signed : List ℕ → List ℕ → List ℕ) (hashed : List ℕ
     call_waits (Err fault.QueueFull) does = stays_waiting does.adds.stays
     call_waits (Err (fault.Full need room)) does = stays_waiting does.adds.stays
     call_waits (Err fault.Memory) does = stays_waiting does
-    call_waits (Err fault.Stopped) does = record { sent = λ request h x a is flies. cc; answer = λ f answer h x a n is flies ok. cc }
+    call_waits (Err fault.Stopped) does = record { sent = λ f request h x a is flies. cc; answer = λ f answer h x a n is flies ok. cc }
 
 -- ---- where the disk stopped, and where it didn't
 
@@ -210,7 +216,7 @@ module _ (sealed signed : List ℕ → List ℕ → List ℕ) (hashed : List ℕ
   pub closed_call : (old : Member) (request : Request) (moment : ℕ) → old.inside ≡ None → Calls old old request moment (Err fault.Closed)
   closed_call old request moment none = (
     λ f c p part has h. (p, (refl, closed_at sealed signed hashed seed names old.number f c old p none h), h),
-    record { sent = λ request h. h; answer = λ f answer h. h },
+    record { sent = λ f request h. h; answer = λ f answer h. h },
   )
 
   -- a call of a session on this disk, of the device with this number

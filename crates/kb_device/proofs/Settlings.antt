@@ -23,7 +23,8 @@ use Rattle.kb_device.specs.Noting.{Writes, Stops}
 use Rattle.kb_device.specs.Stands.{Platter}
 use Rattle.kb_device.specs.declared.settled.SettleFault.{SettleFault}
 use Rattle.kb_device.specs.declared.settled.SettleFault.TheVariants as fault
-use Rattle.kb_device.specs.Settling.{CanSettle, can_settle, with_merge, resolved, IsAsked, Asks, Settles, SettleBreaks}
+use Rattle.kb_device.specs.Caches.{Cache, Takes}
+use Rattle.kb_device.specs.Settling.{CanSettle, can_settle, grown, with_merge, resolved, IsAsked, Asks, Settles, SettleBreaks}
 
 drop_all : {A : Type 0} (xs : List A) → drop (length xs) xs ≡ []
 drop_all [] = refl
@@ -120,26 +121,28 @@ asked sealed signed hashed d secret key moment s x t request pointers left b key
 }
 
 -- it was put
-abbrev pub asks_by : (sealed signed : List ℕ → List ℕ → List ℕ) (hashed : List ℕ → List ℕ) (f g : Held) (d : ℕ) (secret : List ℕ) (moment : ℕ) (tree : Tree) (s : Inside) (was : Platter) (t : Inside) (now : Platter) (o : Option Plan) (x : Plan) (request : FolderRequest) (pointers : Kept) (answer : Result ℕ PutRefusal)
-    → s.plan ≡ Some x → IsAsked sealed signed hashed d secret moment (record s { plan = o }) x tree request pointers → Puts signed hashed f request g answer → Asks sealed signed hashed f g d secret moment tree s was t now answer
-asks_by sealed signed hashed f g d secret moment tree s was t now o x request pointers answer planned a put = record {
+abbrev pub asks_by : (sealed signed : List ℕ → List ℕ → List ℕ) (hashed : List ℕ → List ℕ) (f g : Held) (d : ℕ) (secret : List ℕ) (moment : ℕ) (tree : Tree) (s : Inside) (was : Platter) (t : Inside) (now : Platter) (o : Option Plan) (x : Plan) (request : FolderRequest) (pointers : Kept) (cache : Cache) (answer : Result ℕ PutRefusal)
+    → s.plan ≡ Some x → IsAsked sealed signed hashed d secret moment (record s { plan = o }) x tree request pointers → Takes hashed x.cache request.blocks cache → Puts signed hashed f request g answer → Asks sealed signed hashed f g d secret moment tree s was t now answer
+asks_by sealed signed hashed f g d secret moment tree s was t now o x request pointers cache answer planned a takes put = record {
   plan = x;
   planned = planned;
   request = request;
   pointers = pointers;
   asked = record { key = a.key; keyed = a.keyed; left = a.left; leaves = a.leaves; made = a.made; holds = a.holds };
+  cache = cache;
+  takes = takes;
   put = put;
 }
 
 module _ (sealed signed : List ℕ → List ℕ → List ℕ) (hashed : List ℕ → List ℕ) (f g : Held) (d : ℕ) (secret : List ℕ) (moment : ℕ) (tree : Tree) (s : Inside) (was : Platter) (t : Inside) (now : Platter) (number : ℕ) (a : Asks sealed signed hashed f g d secret moment tree s was t now (Ok number)) (hash : List ℕ)
     (hash_is : hash ≡ sha256 a.request.revision) where
   -- it landed
-  pub settles : (n : ℕ) (role : Option Role) → n ≡ a.plan.number + 1 → role ≡ role_at g.state.policy.0 d → t ≡ with_merge s a.plan tree a.pointers hash role → Writes (resolved s.journal (a.plan.number + 1) hash) was now → Settles sealed signed hashed f g d secret moment tree s was t now n
+  pub settles : (n : ℕ) (role : Option Role) → n ≡ a.plan.number + 1 → role ≡ role_at g.state.policy.0 d → t ≡ with_merge s (grown a.plan a.cache) tree a.pointers hash role → Writes (resolved s.journal (a.plan.number + 1) hash) was now → Settles sealed signed hashed f g d secret moment tree s was t now n
   settles n role n_is role_is session writes = record {
     number = number;
     asks = a;
     n_is = n_is;
-    session = session ∙ (λ i. with_merge s a.plan tree a.pointers (hash_is i) (role_is i));
+    session = session ∙ (λ i. with_merge s (grown a.plan a.cache) tree a.pointers (hash_is i) (role_is i));
     disk = subst (λ k. Writes (resolved s.journal k (sha256 a.request.revision)) was now) (sym n_is) (subst (λ h. Writes (resolved s.journal (a.plan.number + 1) h) was now) hash_is writes);
   }
 

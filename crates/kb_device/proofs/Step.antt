@@ -1,5 +1,5 @@
 -- The request that lands one operation is for the machine's ask.
-use Rattle.std.proofs.Common.{◌≡◌, ℕ, suc, ◌+◌, ◌≤◌, true, cond, List, [], ◌∷◌, ◌++◌, length, Some, None, refl, sym, ap, subst, ◌∙◌, arith}
+use Rattle.std.proofs.Common.{◌≡◌, ℕ, suc, ◌+◌, ◌≤◌, true, cond, List, [], ◌∷◌, ◌++◌, length, Option, Some, None, refl, sym, ap, subst, ◌∙◌, arith}
 use Rattle.std.specs.Prelude.{◌&&◌, nat_le, reverse}
 use Rattle.std.specs.FinMap.{get}
 use Rattle.std.proofs.lemmas.Bool.Decides.{nat_tests}
@@ -8,10 +8,8 @@ use Rattle.kb_ops.specs.declared.rows.Op.{Op}
 use Rattle.kb_ops.specs.Trees.{Tree, look, fold_ops}
 use Rattle.kb_keys.specs.Secrets.{device_secret, folder_key}
 use Rattle.kb_files.specs.Opens.{Opens}
-use Rattle.kb_files.proofs.Vaults.{opens_kept}
 use Rattle.kb_snap.specs.Holds.{HoldsTree}
 use Rattle.kb_snap.specs.Pointers.{Kept}
-use Rattle.kb_snap.proofs.Kept.{row_within}
 use Rattle.kb_snap.specs.Chains as plain
 use Rattle.kb_snap.specs.Chains.{Chain}
 use Rattle.kb_snap.proofs.Chains.{tree_next, newest_is}
@@ -25,6 +23,8 @@ use Rattle.kb_folder.specs.Goes.{HasChain, IsFor}
 use Rattle.kb_folder.proofs.Turning.{turned, gen_next}
 use Rattle.kb_folder.proofs.Standing.{stands_length}
 use Rattle.kb_folder.proofs.Determinate.{once}
+use Rattle.kb_device.specs.Caches.{Cache}
+use Rattle.kb_device.specs.declared.patching.OldFile.{OldFile}
 use Rattle.kb_device.specs.Stepping.{step_private, step_revision, step_ask, IsStepRequest, IsKnown}
 
 pub key_now : (seed : List ℕ) (g : ℕ) → 1 ≤ g → keys_to seed g g ≡ Some (folder_key seed g)
@@ -37,12 +37,12 @@ tree_then x back =
     ap (λ l. plain.tree_at l (suc (length back))) (turned x back) ∙ ap (plain.tree_at (reverse back ++ x ∷ [])) size ∙ tree_next (reverse back) x
 
 module _ (sealed signed : List ℕ → List ℕ → List ℕ) (hashed : List ℕ → List ℕ) (one_plain : (k p q : List ℕ) → sealed k p ≡ sealed k q → p ≡ q) (seed : List ℕ) (names : Names) (f : Held)
-    (generation number : ℕ) (head : List ℕ) (op : Op) (t : Tree) (left : Kept) (request : FolderRequest)
-    (made : IsStepRequest sealed signed hashed (device_secret seed op.device) (folder_key seed generation) generation number head op t left request) where
+    (generation number : ℕ) (head : List ℕ) (op : Op) (t : Tree) (left : Kept) (cache : Cache) (old : Option OldFile) (request : FolderRequest)
+    (made : IsStepRequest sealed signed hashed (device_secret seed op.device) (folder_key seed generation) generation number head op t left cache (keys_to seed generation) old request) where
   abbrev x : Plain
   x = (step_ask number (names op.device) op).revision
 
-  extends : (back : Back) → IsAllowed back op.device → number ≡ length back + 1 → IsKnown sealed hashed seed f (reverse back) generation head op t left → Extends sealed signed hashed seed names f back request x
+  extends : (back : Back) → IsAllowed back op.device → number ≡ length back + 1 → IsKnown sealed hashed seed f (reverse back) generation head op t left cache old → Extends sealed signed hashed seed names f back request x
   extends back allowed next known = record {
     follows = record {
       allowed = allowed;
@@ -76,13 +76,12 @@ module _ (sealed signed : List ℕ → List ℕ → List ℕ) (hashed : List ℕ
         subst (λ (u : Tree). HoldsTree (Opens sealed hashed blocks (keys_to seed generation)) made.root made.mtime u) tree (record {
           formed = made.formed;
           timed = made.timed;
-          held = made.held blocks (keys_to seed generation) (key_now seed generation made.is.rules.generation.0) stored
-              (λ q p at. row_within (Opens sealed hashed (get f.blocks) (keys_to seed generation)) (Opens sealed hashed blocks (keys_to seed generation)) (opens_kept sealed hashed (get f.blocks) blocks (keys_to seed generation) kept) (look t) q p (known.held q p at));
+          held = made.held known.few known.cached known.grounds blocks (keys_to seed generation) (λ id b at. kept id b (known.within id b at)) (λ g key at. at) stored;
         });
     halves = made.halves;
   }
 
-  pub for : (c : Chain) → HasChain sealed signed hashed seed names f c → (1 ≤ op.device) × (op.device ≤ f.state.registered) → number ≤ length c + 1 → (number ≡ length c + 1 → IsKnown sealed hashed seed f c generation head op t left)
+  pub for : (c : Chain) → HasChain sealed signed hashed seed names f c → (1 ≤ op.device) × (op.device ≤ f.state.registered) → number ≤ length c + 1 → (number ≡ length c + 1 → IsKnown sealed hashed seed f c generation head op t left cache old)
       → IsFor sealed signed hashed seed names f request (step_ask number (names op.device) op)
   for c has registered most known =
       let size : length f.revisions ≡ length has.back = stands_length sealed signed hashed seed names f.state.registered (get f.blocks) f.revisions has.back has.stands.stands in
@@ -101,6 +100,6 @@ module _ (sealed signed : List ℕ → List ℕ → List ℕ) (hashed : List ℕ
               signature = refl;
               extends = λ allowed next.
                   let end : number ≡ length c + 1 = next ∙ ap (λ (b : Back). length b + 1) (sym same) ∙ ap (λ k. k + 1) (sym long) in
-                  extends back allowed next (subst (λ (l : Chain). IsKnown sealed hashed seed f l generation head op t left) (has.turned ∙ ap reverse same) (known end));
+                  extends back allowed next (subst (λ (l : Chain). IsKnown sealed hashed seed f l generation head op t left cache old) (has.turned ∙ ap reverse same) (known end));
             };
       }

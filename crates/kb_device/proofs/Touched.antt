@@ -21,7 +21,7 @@ use Rattle.kb_snap.specs.Holds.Holds.{leaf, dir}
 use Rattle.kb_snap.specs.Laws.{IsUnder, IsClear}
 use Rattle.kb_snap.specs.Pointers.{Kept, AllHold}
 use Rattle.kb_snap.proofs.Found.{stay_held, clear_stays}
-use Rattle.kb_device.specs.Left.{left_from, left_of}
+use Rattle.kb_device.specs.Left.{AreLeft, left_from, left_of}
 
 no_row : (r : Row) (o : Option Row) → o ≡ None → o ≡ Some r → ⊥
 no_row r o e h = let bad : None ≡ Some r = sym e ∙ h in cc
@@ -135,6 +135,9 @@ module _ (t : Tree) where
           let k = kept_from node q (get kept q) p h in
           let r = there t node fits in
           edits node (λ r. record r { mtime = mtime }) (λ r. refl) r.0 r.1 (all q p k.1) k.0
+
+pub leaves_hold : (vault : Vault) (t : Tree) (id : NodeId) (moment : ℕ) (change : Change) (kept left : Kept) → FitsChange id moment change t → AreLeft t change kept left → AllHold vault (look t) kept → AllHold vault (look (apply_change id moment change t)) left
+leaves_hold vault t id moment change kept left fits leaves all q p at = by_change t vault q p kept all id moment change fits (leaves q p at)
 
 pub left_holds : (vault : Vault) (t : Tree) (id : NodeId) (moment : ℕ) (change : Change) (kept left : Kept) → FitsChange id moment change t → ((q : NodeId) → get left q ≡ left_of t change q (get kept q)) → AllHold vault (look t) kept → AllHold vault (look (apply_change id moment change t)) left
 left_holds vault t id moment change kept left fits is all q p at = by_change t vault q p kept all id moment change fits (sym (is q) ∙ at)

@@ -11,13 +11,13 @@ use Rattle.kb_device.specs.declared.device.Device.{Device}
 use Rattle.kb_device.specs.Devices.{disk_in, IsView}
 
 module _ {D S H : Type 0} {disks : Ghosts D} {sealers : Seals S} {hashes : Hashes H} (old : Device D S H disks sealers hashes) where
-  pub inside_of : (v : Member) (s : Session D) → IsView old v → old.session ≡ Some s → v.inside ≡ Some (inside s)
+  pub inside_of : (v : Member) (s : Session D H) → IsView old v → old.session ≡ Some s → v.inside ≡ Some (inside s)
   inside_of v s view some = view.inside_is ∙ ap (option_map inside) some
 
   pub outside_of : (v : Member) → IsView old v → old.session ≡ None → v.inside ≡ None
   outside_of v view none = view.inside_is ∙ ap (option_map inside) none
 
-  pub disk_of : (v : Member) (s : Session D) → IsView old v → old.resting ≡ None → old.session ≡ Some s → v.disk ≡ platter disks s.journal.disk
+  pub disk_of : (v : Member) (s : Session D H) → IsView old v → old.resting ≡ None → old.session ≡ Some s → v.disk ≡ platter disks s.journal.disk
   disk_of v s view rests some =
       let same : Some view.held ≡ Some s.journal.disk = sym view.has ∙ (λ i. disk_in (rests i) (some i)) in
       let is : view.held ≡ s.journal.disk = cc in
@@ -36,7 +36,7 @@ module _ {D S H : Type 0} {disks : Ghosts D} {sealers : Seals S} {hashes : Hashe
   }
 
   -- a device whose session is another
-  pub next_view : (new : Device D S H disks sealers hashes) (v : Member) (t : Session D) → new.number ≡ old.number → new.name ≡ old.name → new.secret ≡ old.secret → new.resting ≡ None → new.session ≡ Some t → IsView old v
+  pub next_view : (new : Device D S H disks sealers hashes) (v : Member) (t : Session D H) → new.number ≡ old.number → new.name ≡ old.name → new.secret ≡ old.secret → new.resting ≡ None → new.session ≡ Some t → IsView old v
       → IsView new (record v { disk = platter disks t.journal.disk; inside = Some (inside t) })
   next_view new v t number name secret resting session view = record {
     number = view.number ∙ sym number;
@@ -62,7 +62,7 @@ module _ {D S H : Type 0} {disks : Ghosts D} {sealers : Seals S} {hashes : Hashe
   }
 
   -- a device whose session is another, on the same disk
-  pub kept_view : (new : Device D S H disks sealers hashes) (v : Member) (t : Session D) → new.number ≡ old.number → new.name ≡ old.name → new.secret ≡ old.secret → new.resting ≡ None → new.session ≡ Some t → v.disk ≡ platter disks t.journal.disk → IsView old v
+  pub kept_view : (new : Device D S H disks sealers hashes) (v : Member) (t : Session D H) → new.number ≡ old.number → new.name ≡ old.name → new.secret ≡ old.secret → new.resting ≡ None → new.session ≡ Some t → v.disk ≡ platter disks t.journal.disk → IsView old v
       → IsView new (record v { inside = Some (inside t) })
   kept_view new v t number name secret resting session disk view = record {
     number = view.number ∙ sym number;

@@ -13,6 +13,7 @@ use Rattle.kb_chain.specs.Privates.{private_text, IsPrivate}
 use Rattle.kb_folder.specs.Chains.{Plain, Back, Names, tree_at, generation_in}
 use Rattle.kb_folder.specs.Stands.{Revisions, IsWritten, keys_to}
 use Rattle.kb_device.proofs.Step.{key_now}
+use Rattle.kb_device.specs.Caches.{Cache, known_in}
 use Rattle.kb_device.specs.Stands.{RingStands}
 
 module _ (sealed signed : List ℕ → List ℕ → List ℕ) (hashed : List ℕ → List ℕ) (seed : List ℕ) (names : Names) (blocks : Blocks) (bs : Revisions) (c : Back) (bytes : List ℕ) (x : Plain) (w : IsWritten sealed signed hashed seed names blocks bs c bytes x)
@@ -57,6 +58,6 @@ module _ (sealed signed : List ℕ → List ℕ → List ℕ) (hashed : List ℕ
         held = row_within (Opens sealed hashed blocks (keys_to seed w.spells.revision.generation)) (Opens sealed hashed blocks (key_at ring)) (λ q text o. record { key = o.key; known = sym (same_keys q.generation) ∙ o.known; stored = o.stored; hash = o.hash }) _ _ _ h.held;
       })
 
-  pub all_there : (t : Tree) (kept : Kept) → AllHold (Opens sealed hashed blocks (key_at ring)) (look t) kept → AllHold (Opens sealed hashed blocks (keys_to seed g)) (look t) kept
-  all_there t kept h = λ q p at.
-      row_within (Opens sealed hashed blocks (key_at ring)) (Opens sealed hashed blocks (keys_to seed g)) (λ q text o. record { key = o.key; known = sym (stands q.generation) ∙ o.known; stored = o.stored; hash = o.hash }) (look t) q p (h q p at)
+  pub all_known : (t : Tree) (kept : Kept) (cache : Cache) → AllHold (Opens sealed hashed (known_in cache blocks) (key_at ring)) (look t) kept → AllHold (Opens sealed hashed (known_in cache blocks) (keys_to seed g)) (look t) kept
+  all_known t kept cache h = λ q p at.
+      row_within (Opens sealed hashed (known_in cache blocks) (key_at ring)) (Opens sealed hashed (known_in cache blocks) (keys_to seed g)) (λ q text o. record { key = o.key; known = sym (stands q.generation) ∙ o.known; stored = o.stored; hash = o.hash }) (look t) q p (h q p at)

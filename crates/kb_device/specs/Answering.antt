@@ -21,7 +21,7 @@ use Rattle.kb_device.specs.declared.answers.PutAnswer.{PutAnswer}
 module _ (sealed signed : List ℕ → List ℕ → List ℕ) (hashed : List ℕ → List ℕ) (seed : List ℕ) (names : Names) where
   -- the flight that is kept then has this request
   abbrev pub PickSends : ℕ → Member → Member → FolderRequest → Type 0
-  PickSends d old new request = (f : Held) (c : Chain) (p : Part) → DeviceStands sealed signed hashed seed names d f c old p → Sent sealed hashed seed request new
+  PickSends d old new request = (f : Held) (c : Chain) (p : Part) → DeviceStands sealed signed hashed seed names d f c old p → Sent sealed hashed seed f request new
 
   -- a pick that is refused for this reason
   abbrev pub PickRefuses : Member → Member → says.PickFault → Type 0
@@ -40,7 +40,7 @@ module _ (sealed signed : List ℕ → List ℕ → List ℕ) (hashed : List ℕ
   -- A put of the flight's request that is taken lands the flight, and its answer is the put's with the hash of the revision's bytes.
   abbrev pub SentLands : Type 0
   SentLands = (d : ℕ) (f new : Held) (c : Chain) (v : Member) (p : Part) (request : FolderRequest) (answer : PutAnswer) → HasChain sealed signed hashed seed names f c → DeviceStands sealed signed hashed seed names d f c v p
-      → Sent sealed hashed seed request v → Puts signed hashed f request new answer.number → answer.hash ≡ sha256 request.revision
+      → Sent sealed hashed seed f request v → Puts signed hashed f request new answer.number → answer.hash ≡ sha256 request.revision
       → ((s : Inside) (a : Aloft) (n : ℕ) → v.inside ≡ Some s → s.aloft ≡ Some a → answer.number ≡ Ok n → n ≡ a.flight.number) → AnswerStands sealed hashed seed new v answer
 
   -- It stays landed while the folder goes on.

@@ -13,13 +13,13 @@ use Rattle.kb_device.specs.declared.session.Session.{Session}
 use Rattle.kb_device.specs.declared.device.Device.{Device}
 
 -- the disk at rest, or that of the session
-abbrev pub disk_in : {D : Type 0} → Option D → Option (Session D) → Option D
+abbrev pub disk_in : {D H : Type 0} → Option D → Option (Session D H) → Option D
 disk_in (Some disk) session = Some disk
 disk_in None (Some session) = Some session.journal.disk
 disk_in None None = None
 
 -- a session of the device with this number goes on, and its journal is open
-pub record Runs {D : Type 0} (d : ℕ) (session : Session D) : Type 0 where
+pub record Runs {D H : Type 0} (d : ℕ) (session : Session D H) : Type 0 where
   pub running : IsRunning (inside session)
   pub owned : IsOwned d (inside session)
   pub opened : session.journal.is_open ≡ true
@@ -44,6 +44,6 @@ module _ {D S H : Type 0} {disks : Ghosts D} {sealers : Seals S} {hashes : Hashe
   HasFailed old new = (was is : D) → disk_in old.resting old.session ≡ Some was → disk_in new.resting new.session ≡ Some is → Rose (disks.faults was) (disks.faults is)
 
 -- the disk at rest once the session has ended
-abbrev pub rested : {D : Type 0} → Option (Session D) → Option D → Option D
+abbrev pub rested : {D H : Type 0} → Option (Session D H) → Option D → Option D
 rested (Some session) resting = Some session.journal.disk
 rested None resting = resting

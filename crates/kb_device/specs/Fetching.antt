@@ -19,7 +19,7 @@ use Rattle.kb_device.specs.Stands.{PlanStands, Member, DeviceStands}
 
 -- the plan of a head that was read, of the tree of the known revision, and of what was done between
 abbrev pub plan_from : Read → Tree → List Op → Bool → Plan
-plan_from r base ops plain = record { number = r.number; hash = r.hash; merged = r.tree; kept = r.kept; ring = r.ring; generation = r.generation; base = base; ops = ops; plain = plain }
+plan_from r base ops plain = record { number = r.number; hash = r.hash; merged = r.tree; kept = r.kept; cache = r.cache; ring = r.ring; generation = r.generation; base = base; ops = ops; plain = plain }
 
 -- a session with this plan
 abbrev pub with_plan : Inside → Plan → Inside

@@ -5,15 +5,17 @@ use Rattle.kb_keys.specs.Rings.{Keys}
 use Rattle.kb_snap.specs.Pointers.{Kept}
 use Rattle.kb_snap.specs.Chains.{Chain, tree_at}
 use Rattle.kb_folder.specs.Puts.{Held}
+use Rattle.kb_device.specs.Caches.{Cache}
 use Rattle.kb_device.specs.Remembering.{Remembers}
 use Rattle.kb_device.specs.Stands.{RingStands}
 
--- The number and the hash of a revision, its tree with pointers of its rows, and the generation there with the folder keys up to it.
+-- The number and the hash of a revision, its tree with pointers of its rows and the blocks that they reach, and the generation there with the folder keys up to it.
 pub record Read : Type 0 where
   pub number : ℕ
   pub hash : List ℕ
   pub tree : Tree
   pub kept : Kept
+  pub cache : Cache
   pub ring : Keys
   pub generation : ℕ
 
@@ -21,5 +23,5 @@ pub record Read : Type 0 where
 pub record ReadStands (sealed : List ℕ → List ℕ → List ℕ) (hashed : List ℕ → List ℕ) (seed : List ℕ) (f : Held) (c : Chain) (r : Read) : Type 0 where
   pub some : 1 ≤ r.number
   pub tree : r.tree ≡ tree_at c r.number
-  pub remembers : Remembers sealed hashed seed f c r.number r.hash r.generation r.kept
+  pub remembers : Remembers sealed hashed seed f c r.number r.hash r.generation r.kept r.cache
   pub ring : RingStands seed r.generation r.ring

@@ -1,7 +1,6 @@
 -- An open device, as plain values.
 use Rattle.std.specs.Prelude.{◌≡◌, ◌⊎◌, ℕ, ◌+◌, ◌≤◌, Bool, false, List, length, drop, Option, Some, IsSome}
 use Rattle.std.specs.List.{AllByRecursion}
-use Rattle.std.specs.FinMap.{get}
 use Rattle.kb_name.specs.declared.ids.NodeId.{NodeId}
 use Rattle.kb_ops.specs.declared.rows.Op.{Op}
 use Rattle.kb_ops.specs.Grammar.{IsProper}
@@ -11,7 +10,10 @@ use Rattle.kb_keys.specs.Rings.{Keys, key_at}
 use Rattle.kb_snap.specs.Pointers.{Kept}
 use Rattle.kb_journal.specs.State.{State}
 use Rattle.kb_device.specs.Parts.{Flight}
-use Rattle.kb_device.specs.Left.{left_of}
+use Rattle.kb_device.specs.Left.{AreOf, AreLeft}
+use Rattle.kb_device.specs.Caches.{Cache}
+use Rattle.kb_device.specs.Patching.{WasAt}
+use Rattle.kb_device.specs.declared.patching.OldFile.{OldFile}
 
 -- A flight, and the pointers of the tree after it, which hold once its revision landed.
 pub record Aloft : Type 0 where
@@ -19,13 +21,14 @@ pub record Aloft : Type 0 where
   pub kept : Kept
 
 -- What a branch is to be merged into: the length of the chain, the hash of its last revision, the tree there with pointers of
--- its rows, the folder keys up to its generation; the tree of the known revision; and the operations of the revisions between,
--- with whether none of these is a merge.
+-- its rows, the blocks that they reach, the folder keys up to its generation; the tree of the known revision; and the
+-- operations of the revisions between, with whether none of these is a merge.
 pub record Plan : Type 0 where
   pub number : ℕ
   pub hash : List ℕ
   pub merged : Tree
   pub kept : Kept
+  pub cache : Cache
   pub ring : Keys
   pub generation : ℕ
   pub base : Tree
@@ -33,14 +36,17 @@ pub record Plan : Type 0 where
   pub plain : Bool
 
 -- The journal; the base table, which is ahead of the known revision by so many first operations of the queue; the table
--- that is shown; pointers of rows of the base table; the folder keys; the generation and the device's own role at the
--- known revision; the flight; and what a branch is to be merged into.
+-- that is shown; pointers of rows of the base table; the blocks of its own; where the base table is ahead by a write, the
+-- file that it wrote as it was; the folder keys; the generation and the device's own role at the known revision; the flight;
+-- and what a branch is to be merged into.
 pub record Inside : Type 0 where
   pub journal : State
   pub base : Tree
   pub ahead : ℕ
   pub shown : Tree
   pub kept : Kept
+  pub cache : Cache
+  pub written : Option OldFile
   pub ring : Keys
   pub generation : ℕ
   pub role : Option Role
@@ -68,8 +74,8 @@ pub record IsRunning (s : Inside) : Type 0 where
   pub keyed : IsSome (key_at s.ring s.generation)
   pub aloft : (a : Aloft) → s.aloft ≡ Some a → Flies s a
 
--- The base table has the operation, and the pointers that it touched are dropped.
-pub record HasDone (op : Op) (ahead ahead' : ℕ) (base base' : Tree) (kept kept' : Kept) : Type 0 where
+-- The base table has the operation, the pointers that it touched are dropped, and a file that it wrote is kept as it was.
+pub record HasDone (op : Op) (ahead ahead' : ℕ) (base base' : Tree) (kept kept' : Kept) (written written' : Option OldFile) : Type 0 where
   pub ahead_is : ahead' ≡ 1
-  pub does : ((ahead ≡ 1) × (base' ≡ base) × (kept' ≡ kept))
-      ⊎ ((ahead ≡ 0) × Fits op base × (base' ≡ apply op base) × ((q : NodeId) → get kept' q ≡ left_of base op.change q (get kept q)))
+  pub does : ((ahead ≡ 1) × (base' ≡ base) × AreOf kept' kept × (written' ≡ written))
+      ⊎ ((ahead ≡ 0) × Fits op base × (base' ≡ apply op base) × AreLeft base op.change kept kept' × ((old : OldFile) → written' ≡ Some old → WasAt base kept op.change old))

@@ -40,3 +40,6 @@ pub mod Stepping
 pub mod Resolving
 pub mod Lending
 pub mod Behind
+pub mod Caches
+pub mod Patching
+pub mod Counting

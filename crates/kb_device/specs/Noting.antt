@@ -4,10 +4,11 @@ use Rattle.std.specs.FinMap.{get}
 use Rattle.kb_edge.specs.Disk.{MayLeave, FallsBy}
 use Rattle.kb_ops.specs.Trees.{look}
 use Rattle.kb_log.specs.Steps.{RanOut}
-use Rattle.kb_keys.specs.Secrets.{folder_key}
-use Rattle.kb_files.specs.Opens.{Opens}
+use Rattle.kb_files.specs.Opens.{Blocks, Opens}
+use Rattle.kb_ranges.specs.Patches.{StaysIn}
 use Rattle.kb_snap.specs.Pointers.{AllHold}
-use Rattle.kb_snap.specs.Builds.{OnceAllStored}
+use Rattle.kb_device.specs.Caches.{known_in, HasAll}
+use Rattle.kb_device.specs.Patching.{OnceAllAdded}
 use Rattle.kb_journal.specs.State.{State, HasState, done}
 use Rattle.kb_journal.specs.declared.entries.Entry.TheVariants as entry
 use Rattle.kb_chain.specs.declared.states.FolderRequest.{FolderRequest}
@@ -56,7 +57,7 @@ parted j = done j entry.Branched
 
 -- the first operation leaves the queue, the base table has it, and the flight's pointers are kept
 abbrev pub with_landed : Inside → Aloft → List ℕ → Inside
-with_landed s a hash = record s { journal = landed s.journal a hash; ahead = 0; kept = a.kept; aloft = None }
+with_landed s a hash = record s { journal = landed s.journal a hash; ahead = 0; kept = a.kept; written = None; aloft = None }
 
 module _ (old : Inside) (was : Platter) (answer : PutAnswer) (new : Inside) (now : Platter) where
   -- the flight landed, and is noted
@@ -118,18 +119,21 @@ module _ (old : Inside) (was : Platter) (answer : PutAnswer) (new : Inside) (now
 
 -- ---- a flight and its request
 
--- Once the request's blocks are stored, the flight's pointers hold rows of the base table.
-abbrev pub IsRequestOf : (List ℕ → List ℕ → List ℕ) → (List ℕ → List ℕ) → List ℕ → FolderRequest → Inside → Aloft → Type 0
-IsRequestOf sealed hashed seed request s a = OnceAllStored hashed sealed s.generation (folder_key seed s.generation) request.blocks (λ vault. AllHold vault (look s.base) s.kept → AllHold vault (look s.base) a.kept)
+-- Once the request's blocks, which the cache has, are added to some that the cache and the folder have, the flight's pointers hold rows of the base table.
+pub record IsRequestOf (sealed : List ℕ → List ℕ → List ℕ) (hashed : List ℕ → List ℕ) (seed : List ℕ) (f : Held) (request : FolderRequest) (s : Inside) (a : Aloft) : Type 0 where
+  pub few : Blocks
+  pub within : StaysIn few (known_in s.cache (get f.blocks))
+  pub cached : HasAll hashed s.cache request.blocks
+  pub holds : OnceAllAdded hashed sealed few (keys_to seed s.generation) request.blocks (λ vault. AllHold vault (look s.base) a.kept)
 
 -- The folder took the flight as a revision with this hash: its pointers hold rows of the base table there.
 pub record HasLanded (sealed : List ℕ → List ℕ → List ℕ) (hashed : List ℕ → List ℕ) (seed : List ℕ) (f : Held) (s : Inside) (a : Aloft) (hash : List ℕ) : Type 0 where
   pub hash_is : hash ≡ hash_at f.revisions a.flight.number
-  pub held : AllHold (Opens sealed hashed (get f.blocks) (keys_to seed s.generation)) (look s.base) a.kept
+  pub held : AllHold (Opens sealed hashed (known_in s.cache (get f.blocks)) (keys_to seed s.generation)) (look s.base) a.kept
 
 -- the device's flight has this request
-abbrev pub Sent : (List ℕ → List ℕ → List ℕ) → (List ℕ → List ℕ) → List ℕ → FolderRequest → Member → Type 0
-Sent sealed hashed seed request v = (s : Inside) (a : Aloft) → v.inside ≡ Some s → s.aloft ≡ Some a → IsRequestOf sealed hashed seed request s a
+abbrev pub Sent : (List ℕ → List ℕ → List ℕ) → (List ℕ → List ℕ) → List ℕ → Held → FolderRequest → Member → Type 0
+Sent sealed hashed seed f request v = (s : Inside) (a : Aloft) → v.inside ≡ Some s → s.aloft ≡ Some a → IsRequestOf sealed hashed seed f request s a
 
 -- the answer is that of the device's flight: where the put was taken, the folder has it
 abbrev pub AnswerStands : (List ℕ → List ℕ → List ℕ) → (List ℕ → List ℕ) → List ℕ → Held → Member → PutAnswer → Type 0

@@ -30,7 +30,7 @@ use Rattle.kb_device.specs.Telling.{told_status, status_in}
 
 -- the session of a journal that was in this state, once this is taken over and this revision is known
 abbrev pub started : State → Option Taking → Read → Tree → Option Role → Inside
-started s taking r shown role = record { journal = caught_by (taken_by s taking) r; base = r.tree; ahead = 0; shown = shown; kept = r.kept; ring = r.ring; generation = r.generation; role = role; aloft = None; plan = None }
+started s taking r shown role = record { journal = caught_by (taken_by s taking) r; base = r.tree; ahead = 0; shown = shown; kept = r.kept; cache = r.cache; written = None; ring = r.ring; generation = r.generation; role = role; aloft = None; plan = None }
 
 -- the disk has the state that the opening goes on with, after so many steps at most
 pub record Resumes (steps : ℕ) (after : State) (old new : Platter) : Type 0 where

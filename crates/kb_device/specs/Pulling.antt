@@ -28,7 +28,7 @@ headed j r = done j (entry.Head r.number r.hash (last_seq j) j.mark)
 
 -- a session that knows it, and has no queue
 abbrev pub with_head : Inside → Read → Option Role → Inside
-with_head s r role = record s { journal = headed s.journal r; base = r.tree; ahead = 0; shown = r.tree; kept = r.kept; ring = r.ring; generation = r.generation; role = role }
+with_head s r role = record s { journal = headed s.journal r; base = r.tree; ahead = 0; shown = r.tree; kept = r.kept; cache = r.cache; written = None; ring = r.ring; generation = r.generation; role = role }
 
 -- what was read can be kept
 pub record IsReadable (r : Read) : Type 0 where

@@ -45,7 +45,7 @@ module _ (sealed signed : List ℕ → List ℕ → List ℕ) (hashed : List ℕ
 
 -- A flight that is out stays so: its request is the one that was sent, and an answer to its put stays one.
 pub record WaitsOn (sealed : List ℕ → List ℕ → List ℕ) (hashed : List ℕ → List ℕ) (seed : List ℕ) (old new : Member) : Type 0 where
-  pub sent : (request : FolderRequest) → Sent sealed hashed seed request old → Sent sealed hashed seed request new
+  pub sent : (f : Held) (request : FolderRequest) → Sent sealed hashed seed f request old → Sent sealed hashed seed f request new
   pub answer : (f : Held) (answer : PutAnswer) → AnswerStands sealed hashed seed f old answer → AnswerStands sealed hashed seed f new answer
 
 -- ---- fuse and power

@@ -1,5 +1,5 @@
 -- How a branch is resolved.
-use Rattle.std.specs.Prelude.{◌≡◌, ℕ, ◌+◌, ◌≤◌, ◌<◌, ◌&&◌, nat_le, nat_lt, is_some, IsSome, Bool, true, false, List, length, Option, Some, None, Result, Ok, Err}
+use Rattle.std.specs.Prelude.{◌≡◌, ◌⊎◌, ℕ, ◌+◌, ◌≤◌, ◌<◌, ◌&&◌, nat_le, nat_lt, is_some, IsSome, Bool, true, false, List, length, Option, Some, None, Result, Ok, Err}
 use Rattle.sha2.specs.Sha256.{sha256}
 use Rattle.kb_ops.specs.Trees.{Tree, look}
 use Rattle.kb_keys.specs.declared.policy.Role.{Role}
@@ -16,6 +16,7 @@ use Rattle.kb_rules.specs.declared.stamp.Stamp.{Stamp}
 use Rattle.kb_rules.specs.declared.report.Report.{Report}
 use Rattle.kb_rules.specs.Merge.{report}
 use Rattle.kb_snap.specs.Chains.{merged_tree, stamp_of}
+use Rattle.kb_device.specs.Caches.{Cache, Takes}
 use Rattle.kb_device.specs.Journals.{plain}
 use Rattle.kb_device.specs.Left.{LeavesSame}
 use Rattle.kb_folder.specs.Puts.{Held, Puts}
@@ -31,6 +32,10 @@ use Rattle.kb_device.specs.Stands.{Platter}
 abbrev pub resolved : State → ℕ → List ℕ → State
 resolved j number hash = done j (entry.Merged number hash (length j.queue))
 
+-- the plan whose cache has taken more blocks
+abbrev pub grown : Plan → Cache → Plan
+grown x cache = record x { cache = cache }
+
 -- the session then: its tree is the merged one, with these pointers, and it has what the plan has
 abbrev pub with_merge : Inside → Plan → Tree → Kept → List ℕ → Option Role → Inside
 with_merge s x t pointers hash role = record {
@@ -39,6 +44,8 @@ with_merge s x t pointers hash role = record {
   ahead = 0;
   shown = t;
   kept = pointers;
+  cache = x.cache;
+  written = None;
   ring = x.ring;
   generation = x.generation;
   role = role;
@@ -68,13 +75,15 @@ pub record IsAsked (sealed signed : List ℕ → List ℕ → List ℕ) (hashed 
   pub holds : OnceAllStored hashed sealed x.generation key request.blocks (λ vault. AllHold vault (look t) left → AllHold vault (look t) pointers)
 
 module _ (sealed signed : List ℕ → List ℕ → List ℕ) (hashed : List ℕ → List ℕ) (f g : Held) (d : ℕ) (secret : List ℕ) (moment : ℕ) (tree : Tree) (s : Inside) (was : Platter) (t : Inside) (now : Platter) where
-  -- the merge of the plan was put, with this answer
+  -- the merge of the plan was put, with this answer, and the plan's cache took its blocks before
   pub record Asks (answer : Result ℕ PutRefusal) : Type 0 where
     pub plan : Plan
     pub planned : s.plan ≡ Some plan
     pub request : FolderRequest
     pub pointers : Kept
     pub asked : IsAsked sealed signed hashed d secret moment s plan tree request pointers
+    pub cache : Cache
+    pub takes : Takes hashed plan.cache request.blocks cache
     pub put : Puts signed hashed f request g answer
 
   -- it landed, and is noted
@@ -82,7 +91,7 @@ module _ (sealed signed : List ℕ → List ℕ → List ℕ) (hashed : List ℕ
     pub number : ℕ
     pub asks : Asks (Ok number)
     pub n_is : n ≡ asks.plan.number + 1
-    pub session : t ≡ with_merge s asks.plan tree asks.pointers (sha256 asks.request.revision) (role_at g.state.policy.0 d)
+    pub session : t ≡ with_merge s (grown asks.plan asks.cache) tree asks.pointers (sha256 asks.request.revision) (role_at g.state.policy.0 d)
     pub disk : Writes (resolved s.journal n (sha256 asks.request.revision)) was now
 
   -- it landed, and the disk stopped
@@ -104,12 +113,23 @@ module _ (sealed signed : List ℕ → List ℕ → List ℕ) (hashed : List ℕ
     pub session : t ≡ s
     pub disk : now ≡ was
 
+  -- nothing changed, but that the plan's cache took some blocks
+  pub record Fills : Type 0 where
+    pub folder : g ≡ f
+    pub plan : Plan
+    pub planned : s.plan ≡ Some plan
+    pub made : List (List ℕ)
+    pub cache : Cache
+    pub takes : Takes hashed plan.cache made cache
+    pub session : t ≡ record s { plan = Some (grown plan cache) }
+    pub disk : now ≡ was
+
   -- what a settle does that gives this answer
   abbrev pub SettleDoes : Result ℕ SettleFault → Type 0
   SettleDoes (Ok n) = Settles n
   SettleDoes (Err fault.Closed) = ⊥
   SettleDoes (Err fault.NoPlan) = Stays × (s.plan ≡ None)
-  SettleDoes (Err fault.Memory) = Stays
+  SettleDoes (Err fault.Memory) = Stays ⊎ Fills
   SettleDoes (Err (fault.ByPut refusal)) = Drops refusal
   SettleDoes (Err fault.Stopped) = SettleBreaks
 

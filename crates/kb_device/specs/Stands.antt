@@ -1,5 +1,5 @@
 -- What a device stands for, at a folder with its chain.
-use Rattle.std.specs.Prelude.{◌≡◌, ℕ, ◌≤◌, false, List, length, map, reverse, take, Bool, Option, Some, MatchOption}
+use Rattle.std.specs.Prelude.{◌≡◌, ℕ, ◌≤◌, false, List, ◌∷◌, length, map, reverse, take, Bool, Option, Some, MatchOption}
 use Rattle.std.specs.Option.{option_map}
 use Rattle.std.specs.FinMap.{get}
 use Rattle.sha2.specs.Sha256.{sha256}
@@ -17,6 +17,10 @@ use Rattle.kb_device.specs.Disks.{IsKept}
 use Rattle.kb_folder.specs.Chains.{Names}
 use Rattle.kb_folder.specs.Stands.{Revisions, keys_to}
 use Rattle.kb_folder.specs.Puts.{Held}
+use Rattle.kb_ops.specs.declared.rows.Op.{Op}
+use Rattle.kb_device.specs.Caches.{known_in}
+use Rattle.kb_device.specs.Patching.{IsOldOf}
+use Rattle.kb_device.specs.declared.patching.OldFile.{OldFile}
 use Rattle.kb_device.specs.Remembering.{Remembers}
 use Rattle.kb_device.specs.Inside.{Aloft, Plan, Inside, IsRunning}
 use Rattle.kb_device.specs.Behind.{behind, all_ops, are_plain}
@@ -52,7 +56,7 @@ RingStands seed generation ring = (g : ℕ) → key_at ring g ≡ keys_to seed g
 -- What was fetched is so in the folder.
 pub record PlanStands (sealed : List ℕ → List ℕ → List ℕ) (hashed : List ℕ → List ℕ) (seed : List ℕ) (f : Held) (c : Chain) (known : ℕ) (x : Plan) : Type 0 where
   pub merged : x.merged ≡ tree_at c x.number
-  pub remembers : Remembers sealed hashed seed f c x.number x.hash x.generation x.kept
+  pub remembers : Remembers sealed hashed seed f c x.number x.hash x.generation x.kept x.cache
   pub ring : RingStands seed x.generation x.ring
   pub base : x.base ≡ tree_at c known
   pub ops : x.ops ≡ all_ops (behind c known x.number)
@@ -61,15 +65,17 @@ pub record PlanStands (sealed : List ℕ → List ℕ → List ℕ) (hashed : Li
 module _ (sealed signed : List ℕ → List ℕ → List ℕ) (hashed : List ℕ → List ℕ) (seed : List ℕ) (names : Names) where
   -- A session: the journal is the part's one; the base table is the tree of the known revision with the operations that
   -- it is ahead by; the table shown is the queue folded over that tree; the hash, the generation and the pointers are
-  -- those of the known revision, and the pointers hold rows of the base table too.
+  -- those of the known revision, and the pointers hold rows of the base table too, in blocks that the device's cache and the
+  -- folder have. They hold a file that the base table has written already as it was before.
   pub record SessionStands (f : Held) (c : Chain) (s : Inside) (p : Part) : Type 0 where
     pub at : IsOpenAt p (plain s.journal)
     pub running : IsRunning s
     pub base : s.base ≡ fold_ops (take s.ahead s.journal.queue) p.base
     pub shown : s.shown ≡ tree_shown p (plain s.journal)
     pub role : s.role ≡ p.role
-    pub remembers : Remembers sealed hashed seed f c s.journal.known s.journal.hash s.generation s.kept
-    pub held : AllHold (Opens sealed hashed (get f.blocks) (keys_to seed s.generation)) (look s.base) s.kept
+    pub remembers : Remembers sealed hashed seed f c s.journal.known s.journal.hash s.generation s.kept s.cache
+    pub held : AllHold (Opens sealed hashed (known_in s.cache (get f.blocks)) (keys_to seed s.generation)) (look s.base) s.kept
+    pub written : (op : Op) (rest : List Op) (old : OldFile) → s.journal.queue ≡ op ∷ rest → s.ahead ≡ 1 → s.written ≡ Some old → IsOldOf (Opens sealed hashed (known_in s.cache (get f.blocks)) (keys_to seed s.generation)) s.base op.change old
     pub ring : RingStands seed s.generation s.ring
     pub flight : p.flight ≡ option_map (λ (a : Aloft). a.flight) s.aloft
     pub plan : p.plan ≡ option_map (λ (x : Plan). x.number) s.plan

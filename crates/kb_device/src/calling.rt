@@ -22,6 +22,7 @@ ghost use Rattle.kb_apply.specs.Shows.{shown_of};
 use crate::called::{CallFault, Called, LookFault, Status};
 use crate::session::Session;
 use kb_apply::{ShowFault, apply, plan, prepare, show as show_table};
+use kb_blocks::BlockHash;
 use kb_edge::{Disk, Memory};
 use kb_journal::{AddFault, Journal};
 use kb_keys::Role;
@@ -114,7 +115,7 @@ fn queue_op<D: Disk>(
     }
 }
 
-impl<D: Disk> Session<D> {
+impl<D: Disk, H: BlockHash> Session<D, H> {
     // The number of queued operations.
     pub fn queue_len(&self) -> u32
         ensures { result ≡ length self.now.journal.state.queue }

@@ -31,7 +31,7 @@ pub struct Device<D: Disk, S: Sealer, H: BlockHash> {
     name: DeviceName,
     secret: Key,
     resting: Option<D>,
-    session: Option<Session<D>>,
+    session: Option<Session<D, H>>,
     sealer: PhantomData<S>,
     hash: PhantomData<H>,
     ghost numbered: { 1 ≤ number },
@@ -63,7 +63,7 @@ impl<D: Disk, S: Sealer, H: BlockHash> Device<D, S, H> {
         let Some(session) = &mut self.session else {
             return Err(PickFault::Closed);
         };
-        session.pick::<S, H>(alloc, &self.secret)
+        session.pick::<S>(alloc, &self.secret)
     }
 
     /// Ends the flight with the answer to its put: what landed leaves the queue, and what came late is a branch. Where the
@@ -96,7 +96,7 @@ impl<D: Disk, S: Sealer, H: BlockHash> Device<D, S, H> {
         let Some(session) = &mut self.session else {
             return Err(PullFault::Closed);
         };
-        let pulled = session.pull::<S, H>(alloc, folder, self.number, &self.secret);
+        let pulled = session.pull::<S>(alloc, folder, self.number, &self.secret);
         if !has_stopped_pulling(&pulled) {
             return pulled;
         }
@@ -236,7 +236,7 @@ impl<D: Disk, S: Sealer, H: BlockHash> Device<D, S, H> {
         let Some(session) = &mut self.session else {
             return Err(FetchFault::Closed);
         };
-        session.fetch::<S, H>(alloc, folder, self.number, &self.secret)
+        session.fetch::<S>(alloc, folder, self.number, &self.secret)
     }
 }
 
@@ -281,14 +281,7 @@ impl<D: Disk, S: Sealer, H: BlockHash> Device<D, S, H> {
         let Some(session) = &mut self.session else {
             return Err(SettleFault::Closed);
         };
-        let settled = session.settle::<S, H>(
-            alloc,
-            folder,
-            table,
-            self.number,
-            &self.secret,
-            moment,
-        );
+        let settled = session.settle::<S>(alloc, folder, table, self.number, &self.secret, moment);
         if !has_stopped_settling(&settled) {
             return settled;
         }

@@ -46,15 +46,15 @@ fn read_known<S: Sealer, H: BlockHash>(
         return Err(ReadFault::BadFolder);
     }
     match read_tree(alloc, folder, ring, &lent[0]) {
-        Ok((table, _pointers)) => Ok(table),
+        Ok((table, _pointers, _cache)) => Ok(table),
         Err(fault) => Err(fault),
     }
 }
 
-impl<D: Disk> Session<D> {
+impl<D: Disk, H: BlockHash> Session<D, H> {
     /// Keeps the folder's last revision as what the branch is to be merged into. The tree of the known revision is read
     /// again, since the base table may be ahead of it.
-    pub fn fetch<S: Sealer, H: BlockHash>(
+    pub fn fetch<S: Sealer>(
         &mut self,
         alloc: Global,
         folder: &Folder<S, H>,
@@ -112,7 +112,7 @@ impl<D: Disk> Session<D> {
     }
 }
 
-fn goal_of(head: Head, base: Table, done: Done) -> Goal
+fn goal_of<H: BlockHash>(head: Head<H>, base: Table, done: Done) -> Goal<H>
     ensures { plan_of result ≡ plan_from (read_of head) base.tree done.ops.items done.plain }
 {
     let hash = head.hash;
@@ -121,6 +121,7 @@ fn goal_of(head: Head, base: Table, done: Done) -> Goal
         hash,
         merged: head.base,
         pointers: head.pointers,
+        cache: head.cache,
         ring: head.ring,
         generation: head.generation,
         base,

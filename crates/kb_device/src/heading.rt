@@ -59,7 +59,7 @@ pub fn read_head<S: Sealer, H: BlockHash>(
     ring: &KeyRing,
     generation: u32,
     lent: &[Vec<u8>],
-) -> Result<Head, ReadFault>
+) -> Result<Head<H>, ReadFault>
     requires { 0 < length lent.now }
     ensures same { IfOk result (λ head. head.shown.tree ≡ head.base.tree) }
     ensures last { IfOk result (λ head. IsLastOf d head.base.tree head.last) }
@@ -79,7 +79,7 @@ pub fn read_head<S: Sealer, H: BlockHash>(
         Err(fault) => return Err(fault),
     }
     let bytes = &lent[lent.len() - 1];
-    let (base, pointers) = match read_tree(alloc, folder, &keys, bytes) {
+    let (base, pointers, cache) = match read_tree(alloc, folder, &keys, bytes) {
         Ok(made) => made,
         Err(fault) => return Err(fault),
     };
@@ -95,6 +95,7 @@ pub fn read_head<S: Sealer, H: BlockHash>(
         base,
         shown,
         pointers,
+        cache,
         ring: keys,
         generation: most,
         role,
@@ -102,7 +103,7 @@ pub fn read_head<S: Sealer, H: BlockHash>(
     })
 }
 
-pub fn is_readable(known: u32, head: &Head) -> bool
+pub fn is_readable<H: BlockHash>(known: u32, head: &Head<H>) -> bool
     ensures { result ≡ is_readable known (read_of head.now) }
 {
     known <= head.number
@@ -123,7 +124,7 @@ pub fn read_next<S: Sealer, H: BlockHash>(
     known: u32,
     last: u32,
     lent: &[Vec<u8>],
-) -> Result<Head, ReadFault>
+) -> Result<Head<H>, ReadFault>
     requires some { 0 < length lent.now }
     requires numbered { 1 ≤ d }
     ensures same { IfOk result (λ head. head.shown.tree ≡ head.base.tree) }

@@ -3,6 +3,7 @@ ghost use Rattle.kb_device.specs.Lending.{IsLent};
 ghost use Rattle.kb_device.specs.Views.{inside};
 
 use crate::session::Session;
+use kb_blocks::BlockHash;
 use kb_edge::Disk;
 use kb_ops::Op;
 use kb_tree::Table;
@@ -21,7 +22,7 @@ pub struct Branch<'a> {
     pub plain: bool,
 }
 
-impl<D: Disk> Session<D> {
+impl<D: Disk, H: BlockHash> Session<D, H> {
     /// The branch, where something was fetched that it is to be merged into.
     pub fn branch(&self) -> Option<Branch<'_>>
         ensures { IsLent (inside self.now) result }

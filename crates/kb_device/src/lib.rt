@@ -4,6 +4,7 @@
 
 mod answers;
 mod behind;
+mod caching;
 mod called;
 mod calling;
 mod device;
@@ -20,6 +21,7 @@ mod opened;
 mod opening;
 mod part_laws;
 mod past;
+mod patching;
 mod power;
 mod reading;
 mod resting;
@@ -40,5 +42,6 @@ pub use merge_requests::merge_law;
 pub use part_laws::{
     journals_are_plain, others_keep, part_law, picks_law, return_law, settles_law,
 };
+pub use patching::{OldFile, build_step, few_law};
 pub use settled::SettleFault;
 pub use step_requests::{remember_law, step_law};

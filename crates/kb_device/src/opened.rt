@@ -25,7 +25,7 @@ use kb_seal::{Key, Sealer};
 use std::alloc::Global;
 
 // Notes what is taken over and then the head, and makes the session. Where the disk stops, it is given back.
-fn resume<D: Disk>(journal: Journal<D>, start: Start) -> Result<Session<D>, D>
+fn resume<D: Disk, H: BlockHash>(journal: Journal<D>, start: Start<H>) -> Result<Session<D, H>, D>
     requires opened { journal.is_open ≡ true }
     requires durable { EachImage D.content D.dirty journal.disk (HasState journal.state) }
     requires proper { AllByRecursion IsProper journal.state.queue }
@@ -52,6 +52,8 @@ fn resume<D: Disk>(journal: Journal<D>, start: Start) -> Result<Session<D>, D>
         ahead: 0,
         shown: head.shown,
         pointers: head.pointers,
+        cache: head.cache,
+        written: None,
         ring: head.ring,
         generation: head.generation,
         role: head.role,
@@ -60,15 +62,15 @@ fn resume<D: Disk>(journal: Journal<D>, start: Start) -> Result<Session<D>, D>
     })
 }
 
-impl<D: Disk> Session<D> {
+impl<D: Disk, H: BlockHash> Session<D, H> {
     /// Opens a session of the device with this number over a folder. Where it isn't opened, the disk is given back.
-    pub fn open<S: Sealer, H: BlockHash>(
+    pub fn open<S: Sealer>(
         alloc: Global,
         folder: &Folder<S, H>,
         d: u16,
         secret: &Key,
         disk: D,
-    ) -> Result<Session<D>, (D, OpenFault)>
+    ) -> Result<Session<D, H>, (D, OpenFault)>
         requires sized { IsSized (length (D.content disk)) }
         requires numbered { 1 ≤ d }
         ensures member { IfOk result (λ s. is_member (held folder.now) d ≡ true) }

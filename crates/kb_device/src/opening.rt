@@ -144,7 +144,10 @@ pub fn take_over<D: Disk>(mut journal: Journal<D>, taking: &Option<Taking>) -> R
 }
 
 // Notes the head, where it isn't known. Where the disk stops, it is given back.
-pub fn catch_up<D: Disk>(mut journal: Journal<D>, head: &Head) -> Result<Journal<D>, D>
+pub fn catch_up<D: Disk, H: BlockHash>(
+    mut journal: Journal<D>,
+    head: &Head<H>,
+) -> Result<Journal<D>, D>
     requires opened { journal.is_open ≡ true }
     requires durable { EachImage D.content D.dirty journal.disk (HasState journal.state) }
     requires known { journal.state.known ≤ head.now.number }
@@ -240,9 +243,9 @@ fn find_met<S: Sealer, H: BlockHash>(
 /// What an opening goes on with: a revision that is taken over, and the one that is known then, whose shown table has what
 /// is left of the queue.
 #[derive(Drop)]
-pub struct Start {
+pub struct Start<H: BlockHash> {
     pub taking: Option<Taking>,
-    pub head: Head,
+    pub head: Head<H>,
 }
 
 // The revision as it is taken over, with its hash.
@@ -345,7 +348,7 @@ fn find_head<S: Sealer, H: BlockHash>(
     number: u32,
     left: &[Op],
     end: u32,
-) -> Result<Head, StartFault>
+) -> Result<Head<H>, StartFault>
     requires within { number ≤ length lent.now }
     requires numbered { 1 ≤ d }
     ensures some { OnOk result (1 ≤ number) }
@@ -371,6 +374,7 @@ fn find_head<S: Sealer, H: BlockHash>(
         base,
         shown,
         pointers,
+        cache,
         ring,
         generation,
         role,
@@ -390,6 +394,7 @@ fn find_head<S: Sealer, H: BlockHash>(
         base,
         shown,
         pointers,
+        cache,
         ring,
         generation,
         role,
@@ -408,7 +413,7 @@ pub fn find_start<S: Sealer, H: BlockHash>(
     hash: &Hash,
     queue: &[Op],
     end: u32,
-) -> Result<Start, StartFault>
+) -> Result<Start<H>, StartFault>
     requires long { length queue.now ≤ end }
     requires numbered { 1 ≤ d }
     ensures own { OnOk result (AreOf d queue.now) }

@@ -138,7 +138,7 @@ pub fn read_at<S: Sealer, H: BlockHash>(
     secret: &Key,
     lent: &[Vec<u8>],
     number: u32,
-) -> Result<Head, ReadFault>
+) -> Result<Head<H>, ReadFault>
     requires { (1 ≤ number) × (number ≤ length lent.now) }
     ensures same { IfOk result (λ head. head.shown.tree ≡ head.base.tree) }
     ensures last { IfOk result (λ head. IsLastOf d head.base.tree head.last) }
@@ -162,7 +162,7 @@ pub fn read_at<S: Sealer, H: BlockHash>(
         Ok(()) => {}
         Err(fault) => return Err(fault),
     }
-    let (base, pointers) = match read_tree(alloc, folder, &ring, bytes) {
+    let (base, pointers, cache) = match read_tree(alloc, folder, &ring, bytes) {
         Ok(made) => made,
         Err(fault) => return Err(fault),
     };
@@ -177,6 +177,7 @@ pub fn read_at<S: Sealer, H: BlockHash>(
         base,
         shown,
         pointers,
+        cache,
         ring,
         generation,
         role,

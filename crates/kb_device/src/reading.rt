@@ -18,10 +18,13 @@ ghost use Rattle.kb_folder.specs.Lands.{FolderStands};
 ghost use Rattle.kb_folder.specs.Reading.{places_behind};
 ghost use Rattle.kb_folder.specs.Held.{held};
 ghost use Rattle.kb_device.specs.Stands.{RingStands};
+ghost use Rattle.kb_device.specs.Caches.{known_in};
 ghost use Rattle.kb_device.specs.Filling.{is_wanted, IsServed, IfRead, HasKeysOf};
 
-use kb_blocks::BlockHash;
+use crate::caching::cache_of;
+use kb_blocks::{BlockHash, Store};
 use kb_chain::{BundlePart, Private, Revision, RevisionFault, open_private};
+use kb_edge::Memory;
 use kb_files::LoadFault;
 use kb_folder::Folder;
 use kb_keys::{Entry, KeyRing};
@@ -229,28 +232,34 @@ fn load_tree<S: Sealer, H: BlockHash>(
     folder: &Folder<S, H>,
     ring: &KeyRing,
     private: &Private,
-) -> Result<(Table, Pointers), ReadFault>
+) -> Result<(Table, Pointers, Option<Store<H>>), ReadFault>
     ensures { (t : Tree) → HoldsTree (Opens S.sealed H.hashed (get (held folder.now).blocks) (key_at ring.now)) private.now.root private.now.mtime t
-        → IfRead result (λ made. (made.0.tree ≡ t) × AllHold (Opens S.sealed H.hashed (get (held folder.now).blocks) (key_at ring.now)) (look made.0.tree) made.1) }
+        → IfRead result (λ made. (made.0.tree ≡ t) × AllHold (Opens S.sealed H.hashed (known_in made.2 (get (held folder.now).blocks)) (key_at ring.now)) (look made.0.tree) made.1) }
 {
     one_tree_law::<S, H>();
-    match load::<S, H>(alloc, private.root, private.mtime, ring, folder.store()) {
-        Ok(made) => Ok(made),
-        Err(LoadFault::Memory) => Err(ReadFault::Memory),
-        Err(_) => Err(ReadFault::BadFolder),
+    let store = folder.store();
+    let (table, pointers) = match load::<S, H>(alloc, private.root, private.mtime, ring, store) {
+        Ok(made) => made,
+        Err(LoadFault::Memory) => return Err(ReadFault::Memory),
+        Err(_) => return Err(ReadFault::BadFolder),
+    };
+    match cache_of::<S, H>(alloc, &table, &pointers, ring, store) {
+        Ok(cache) => Ok((table, pointers, cache)),
+        Err(Memory) => Err(ReadFault::Memory),
     }
 }
 
-/// The tree of a revision with pointers of its rows, under the folder keys up to its generation.
+/// The tree of a revision with pointers of its rows and the blocks that they reach, under the folder keys up to its
+/// generation.
 pub fn read_tree<S: Sealer, H: BlockHash>(
     alloc: Global,
     folder: &Folder<S, H>,
     ring: &KeyRing,
     bytes: &[u8],
-) -> Result<(Table, Pointers), ReadFault>
+) -> Result<(Table, Pointers, Option<Store<H>>), ReadFault>
     ensures { (seed : List ℕ) (names : Names) (bs : Revisions) (c : Back) (x : Plain) → IsWritten S.sealed S.signed H.hashed seed names (get (held folder.now).blocks) bs c bytes.now x
         → RingStands seed (generation_in (x ∷ c)) ring.now
-        → IfRead result (λ made. (made.0.tree ≡ tree_at (x ∷ c) (length (x ∷ c))) × AllHold (Opens S.sealed H.hashed (get (held folder.now).blocks) (keys_to seed (generation_in (x ∷ c)))) (look made.0.tree) made.1) }
+        → IfRead result (λ made. (made.0.tree ≡ tree_at (x ∷ c) (length (x ∷ c))) × AllHold (Opens S.sealed H.hashed (known_in made.2 (get (held folder.now).blocks)) (keys_to seed (generation_in (x ∷ c)))) (look made.0.tree) made.1) }
 {
     let revision = match decode(alloc, bytes) {
         Ok(revision) => revision,

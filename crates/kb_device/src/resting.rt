@@ -6,6 +6,7 @@ ghost use Rattle.kb_device.specs.Devices.{rested};
 
 use crate::answers::{NoteFault, Noted, PullFault};
 use crate::session::Session;
+use kb_blocks::BlockHash;
 use kb_edge::Disk;
 
 // Whether the disk stopped in a note.
@@ -34,7 +35,7 @@ pub fn fill<T>(place: &mut Option<T>, value: T)
 }
 
 // The session ends, and its disk is at rest.
-pub fn rest<D: Disk>(session: &mut Option<Session<D>>, resting: &mut Option<D>)
+pub fn rest<D: Disk, H: BlockHash>(session: &mut Option<Session<D, H>>, resting: &mut Option<D>)
     requires { is_some resting.old ≡ not (is_some session.old) }
     ensures ended { session.new ≡ None }
     ensures disk { resting.new ≡ rested session.old resting.old }

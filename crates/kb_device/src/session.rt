@@ -16,17 +16,21 @@ ghost use Rattle.kb_keys.specs.Rings.{key_at};
 ghost use Rattle.kb_device.specs.Fresh.{IsOwned};
 ghost use Rattle.kb_device.specs.Inside.{IsRunning, HasDone};
 ghost use Rattle.kb_device.specs.Views.{inside, aloft_of, platter, read_of};
-ghost use Rattle.kb_device.specs.Picking.{PickDoes, FirstOf, IsMade};
+ghost use Rattle.kb_device.specs.Caches.{Takes};
+ghost use Rattle.kb_device.specs.Left.{AreOf};
+ghost use Rattle.kb_device.specs.Picking.{PickDoes, FirstOf, IsMade, with_left};
 ghost use Rattle.kb_device.specs.declared.answers.PickFault.TheVariants as fault;
 
 use crate::answers::{NoteFault, Noted, PickFault, Picked, PullFault, PutAnswer};
+use crate::caching::keep_blocks;
 use crate::head::{Goal, Head};
 use crate::heading::read_next;
 use crate::left_pointers::forget_touched;
+use crate::patching::{OldFile, old_file};
 use crate::reading::ReadFault;
 use crate::step_requests::{StepMade, step_request};
 use kb_apply::{apply, prepare};
-use kb_blocks::{BlockHash, Hash};
+use kb_blocks::{BlockHash, Hash, Store};
 use kb_chain::PutRefusal;
 use kb_edge::{Disk, Memory, Stopped};
 use kb_folder::Folder;
@@ -49,19 +53,22 @@ pub struct Flight {
 }
 
 /// An open session. The base table is the tree of the known revision, with so many first operations of the queue done
-/// as it is ahead.
+/// as it is ahead. A file that such an operation wrote is kept as it was. The cache has the blocks that the pointers
+/// reach, and is none where two blocks of one hash met.
 #[derive(Drop)]
-pub struct Session<D: Disk> {
+pub struct Session<D: Disk, H: BlockHash> {
     pub journal: Journal<D>,
     pub base: Table,
     pub ahead: u32,
     pub shown: Table,
     pub pointers: Pointers,
+    pub cache: Option<Store<H>>,
+    pub written: Option<OldFile>,
     pub ring: KeyRing,
     pub generation: u32,
     pub role: Option<Role>,
     pub aloft: Option<Flight>,
-    pub plan: Option<Goal>,
+    pub plan: Option<Goal<H>>,
 }
 
 fn copy_of(op: &Op) -> Result<Op, Memory>
@@ -91,44 +98,53 @@ fn is_waiting(queue: &[Op]) -> bool
     !queue.is_empty()
 }
 
-// Does the first operation on the base table, where that isn't ahead yet, and drops the pointers that it touches.
+// Does the first operation on the base table, where that isn't ahead yet, and drops the pointers that it touches. A file
+// that it writes is kept as it was.
 fn go_ahead(
     alloc: Global,
     base: &mut Table,
     pointers: &mut Pointers,
     ahead: &mut u32,
+    written: &mut Option<OldFile>,
     op: &Op,
 ) -> Result<(), Memory>
     requires few { ahead.old ≤ 1 }
     requires fits { ahead.old ≡ 0 → Fits op.now base.old.tree }
-    ensures ok { OnOk result (HasDone op.now ahead.old ahead.new base.old.tree base.new.tree pointers.old pointers.new) }
+    ensures ok { OnOk result (HasDone op.now ahead.old ahead.new base.old.tree base.new.tree pointers.old pointers.new written.old written.new) }
     ensures base { OnErr result (base.new.tree ≡ base.old.tree) }
     ensures pointers { OnErr result (pointers.new ≡ pointers.old) }
     ensures ahead { OnErr result (ahead.new ≡ ahead.old) }
+    ensures written { OnErr result (written.new ≡ written.old) }
 {
     if *ahead != 0 {
         return Ok(());
     }
     let prepared = prepare(alloc, base, op)?;
+    *written = old_file(pointers, base, &op.change);
     forget_touched(pointers, base, &op.change);
     apply(base, prepared);
     *ahead = 1;
     Ok(())
 }
 
-impl<D: Disk> Session<D> {
-    // The request of an operation that the base table has already, and its flight.
-    fn request<S: Sealer, H: BlockHash>(
-        &self,
+impl<D: Disk, H: BlockHash> Session<D, H> {
+    // The request of an operation that the base table has already, and its flight. The cache takes its blocks.
+    fn request<S: Sealer>(
+        &mut self,
         alloc: Global,
         op: Op,
         secret: &Key,
     ) -> Result<(Picked, Flight), PickFault>
-        requires known { 1 ≤ self.now.journal.state.known }
+        requires known { 1 ≤ self.old.journal.state.known }
         requires proper { IsProper op }
-        requires generation { (1 ≤ self.now.generation) × (self.now.generation ≤ 64) }
-        requires keyed { IsSome (key_at self.now.ring self.now.generation) }
-        ensures made { IfOk result (λ made. IsMade S.sealed S.signed H.hashed secret.now (inside self.now) op made.0 (aloft_of made.1)) }
+        requires generation { (1 ≤ self.old.generation) × (self.old.generation ≤ 64) }
+        requires keyed { IsSome (key_at self.old.ring self.old.generation) }
+        ensures made { IfOk result (λ made. IsMade S.sealed S.signed H.hashed secret.now (inside self.new) op self.old.pointers self.old.cache made.0 (aloft_of made.1)) }
+        ensures takes { IfOk result (λ made. Takes H.hashed self.old.cache made.0.request.blocks self.new.cache) }
+        ensures session { inside self.new ≡ with_left (inside self.old) (inside self.new) }
+        ensures left { AreOf self.new.pointers self.old.pointers }
+        ensures cache { OnErr result (self.new.cache ≡ self.old.cache) }
+        ensures journal { self.new.journal ≡ self.old.journal }
         ensures memory { OnErr result (result ≡ Err fault.Memory) }
     {
         let seq = op.seq;
@@ -142,18 +158,26 @@ impl<D: Disk> Session<D> {
         let made = match step_request::<S, H>(
             alloc,
             &self.base,
-            &self.pointers,
+            &mut self.pointers,
             op,
+            self.written,
+            &self.cache,
             number,
             head,
             secret,
             self.generation,
+            &self.ring,
             key,
         ) {
             Ok(made) => made,
             Err(Memory) => return Err(PickFault::Memory),
         };
         let StepMade { request, pointers } = made;
+        let blocks = request.blocks.as_slice();
+        match keep_blocks(&mut self.cache, blocks) {
+            Ok(()) => {}
+            Err(Memory) => return Err(PickFault::Memory),
+        }
         let picked = Picked {
             seq,
             number,
@@ -169,11 +193,7 @@ impl<D: Disk> Session<D> {
     }
 
     /// The request that lands the first operation of the queue, which is in flight then.
-    pub fn pick<S: Sealer, H: BlockHash>(
-        &mut self,
-        alloc: Global,
-        secret: &Key,
-    ) -> Result<Picked, PickFault>
+    pub fn pick<S: Sealer>(&mut self, alloc: Global, secret: &Key) -> Result<Picked, PickFault>
         requires running { IsRunning (inside self.old) }
         ensures does { PickDoes S.sealed S.signed H.hashed secret.now (inside self.old) (inside self.new) result }
         ensures running { IsRunning (inside self.new) }
@@ -192,19 +212,20 @@ impl<D: Disk> Session<D> {
             &mut self.base,
             &mut self.pointers,
             &mut self.ahead,
+            &mut self.written,
             &op,
         ) {
             Ok(()) => {}
             Err(Memory) => return Err(PickFault::Memory),
         }
-        let (picked, flight) = self.request::<S, H>(alloc, op, secret)?;
+        let (picked, flight) = self.request::<S>(alloc, op, secret)?;
         self.aloft = Some(flight);
         Ok(picked)
     }
 
     /// Makes a revision known that was read, where no operation waits. Once the disk has stopped, the journal has to be
     /// opened again.
-    pub fn know(&mut self, head: Head) -> Result<(), Stopped>
+    pub fn know(&mut self, head: Head<H>) -> Result<(), Stopped>
         requires running { IsRunning (inside self.old) }
         requires opened { self.old.journal.is_open ≡ true }
         requires flushed { self.old.journal.state.queue ≡ [] }
@@ -228,6 +249,8 @@ impl<D: Disk> Session<D> {
         self.ahead = 0;
         self.shown = head.shown;
         self.pointers = head.pointers;
+        self.cache = head.cache;
+        self.written = None;
         self.ring = head.ring;
         self.generation = head.generation;
         self.role = head.role;
@@ -236,7 +259,7 @@ impl<D: Disk> Session<D> {
 
     /// Makes the folder's last revision known, where no operation waits. Once the disk has stopped, the journal has to be
     /// opened again.
-    pub fn pull<S: Sealer, H: BlockHash>(
+    pub fn pull<S: Sealer>(
         &mut self,
         alloc: Global,
         folder: &Folder<S, H>,
@@ -306,6 +329,7 @@ impl<D: Disk> Session<D> {
         }
         self.pointers = flight.pointers;
         self.ahead = 0;
+        self.written = None;
         self.aloft = None;
         Ok(Noted::Landed { number })
     }

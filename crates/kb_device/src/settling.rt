@@ -14,6 +14,7 @@ ghost use Rattle.kb_device.specs.Views.{inside, plan_of, platter};
 ghost use Rattle.kb_chain.specs.declared.states.PutRefusal.TheVariants as why;
 ghost use Rattle.kb_device.specs.declared.settled.SettleFault.TheVariants as stop;
 
+use crate::caching::keep_blocks;
 use crate::head::Goal;
 use crate::merge_requests::merge_request;
 use crate::merged_pointers::left_by_merge;
@@ -54,8 +55,8 @@ fn copies(alloc: Global, queue: &[Op]) -> Result<Vec<Op>, Memory>
     Ok(queue.to_vec(alloc)?)
 }
 
-impl<D: Disk> Session<D> {
-    fn can_settle(&self, goal: &Goal) -> bool
+impl<D: Disk, H: BlockHash> Session<D, H> {
+    fn can_settle(&self, goal: &Goal<H>) -> bool
         ensures { result ≡ can_settle (inside self.now) (plan_of goal.now) }
     {
         let count = self.queue_len();
@@ -70,10 +71,10 @@ impl<D: Disk> Session<D> {
     }
 
     // The request of the merge, whose tree is the table. The rows that the merged tree had already keep their blocks.
-    fn merge_of<S: Sealer, H: BlockHash>(
+    fn merge_of<S: Sealer>(
         &self,
         alloc: Global,
-        goal: &Goal,
+        goal: &Goal<H>,
         table: &Table,
         d: u16,
         secret: &Key,
@@ -113,7 +114,7 @@ impl<D: Disk> Session<D> {
     // The merge landed in the revision with this hash: the queue is empty, and the tree is the table.
     fn resolve(
         &mut self,
-        goal: Goal,
+        goal: Goal<H>,
         table: Table,
         shown: Table,
         pointers: Pointers,
@@ -145,6 +146,8 @@ impl<D: Disk> Session<D> {
         self.ahead = 0;
         self.shown = shown;
         self.pointers = pointers;
+        self.cache = goal.cache;
+        self.written = None;
         self.ring = goal.ring;
         self.generation = goal.generation;
         self.role = role;
@@ -153,9 +156,9 @@ impl<D: Disk> Session<D> {
         Ok(number)
     }
 
-    /// Puts the merge of the plan, and makes it known once the folder took it. All memory is taken before the put. A plan
-    /// that the folder refused is dropped. Once the disk has stopped, the journal has to be opened again.
-    pub fn settle<S: Sealer, H: BlockHash>(
+    /// Puts the merge of the plan, and makes it known once the folder took it. All memory is taken before the put, also for
+    /// the blocks that the plan's cache takes. A plan that the folder refused is dropped. Once the disk has stopped, the journal has to be opened again.
+    pub fn settle<S: Sealer>(
         &mut self,
         alloc: Global,
         folder: &mut Folder<S, H>,
@@ -173,14 +176,14 @@ impl<D: Disk> Session<D> {
         ensures opened { UnlessStopped result (self.new.journal.is_open ≡ true) }
         ensures rose { result ≡ Err stop.Stopped → Rose (D.faults self.old.journal.disk) (D.faults self.new.journal.disk) }
     {
-        let Some(goal) = self.plan.take() else {
+        let Some(mut goal) = self.plan.take() else {
             return Err(SettleFault::NoPlan);
         };
         if !self.can_settle(&goal) {
             self.plan = Some(goal);
             return Err(SettleFault::Memory);
         }
-        let made = match self.merge_of::<S, H>(alloc, &goal, &table, d, secret, moment) {
+        let made = match self.merge_of::<S>(alloc, &goal, &table, d, secret, moment) {
             Ok(made) => made,
             Err(Memory) => {
                 self.plan = Some(goal);
@@ -195,6 +198,14 @@ impl<D: Disk> Session<D> {
             }
         };
         let StepMade { request, pointers } = made;
+        let blocks = request.blocks.as_slice();
+        match keep_blocks(&mut goal.cache, blocks) {
+            Ok(()) => {}
+            Err(Memory) => {
+                self.plan = Some(goal);
+                return Err(SettleFault::Memory);
+            }
+        }
         let hash = hash_of(request.revision.as_slice());
         match folder.put(&request) {
             Ok(_) => {}

@@ -4,22 +4,25 @@ ghost use Rattle.kb_name.specs.Nodes.{root as root_id};
 ghost use Rattle.kb_ops.specs.declared.rows.Row.{Row};
 ghost use Rattle.kb_ops.specs.Trees.{look};
 ghost use Rattle.kb_ops.specs.Grammar.{IsProper};
-ghost use Rattle.kb_snap.specs.Builds.{OnceAllStored};
-ghost use Rattle.kb_snap.specs.Pointers.{AllHold};
+ghost use Rattle.kb_keys.specs.Rings.{key_at};
 ghost use Rattle.kb_chain.specs.declared.revisions.RevisionKind.TheVariants.{Step};
 ghost use Rattle.kb_chain.specs.Revisions.{revision_text, signed_text, with_signature, IsRevision};
 ghost use Rattle.kb_chain.specs.Privates.{private_text, IsPrivate};
 ghost use Rattle.kb_folder.specs.Chains.{Names};
+ghost use Rattle.kb_device.specs.Left.{AreOf};
+ghost use Rattle.kb_device.specs.Patching.{KeepsStep};
 ghost use Rattle.kb_device.specs.Stepping.{step_private, step_unsigned, IsStepRequest, StepsAreFor};
 ghost use Rattle.kb_device.specs.Remembering.{RemembersLonger, RemembersGives, RemembersTaken};
 
-use kb_blocks::{BlockHash, Hash, Ptr};
+use crate::patching::{OldFile, build_step};
+use kb_blocks::{BlockHash, Hash, Ptr, Store};
 use kb_chain::{Blocks, FolderRequest, Ops, Private, Revision, RevisionKind, SentHalves};
 use kb_edge::Memory;
+use kb_keys::KeyRing;
 use kb_name::{Moment, NodeId};
 use kb_ops::{Bytes, Op};
 use kb_seal::{Key, Sealer};
-use kb_snap::{Pointers, build};
+use kb_snap::Pointers;
 use kb_tree::Table;
 use std::alloc::Global;
 
@@ -100,29 +103,35 @@ pub(crate) fn root_mtime(table: &Table) -> Moment
 }
 
 /// The request that lands an operation as the revision with this number, behind the one with this hash: of the tree
-/// after the operation, the kept pointers of the rows that it leaves, the device's secret, and the folder's key.
+/// after the operation, the kept pointers of the rows that it leaves, the file that it wrote as it was, the device's own
+/// blocks, its secret, and the folder's keys.
 pub fn step_request<S: Sealer, H: BlockHash>(
     alloc: Global,
     table: &Table,
-    left: &Pointers,
+    left: &mut Pointers,
     op: Op,
+    old: Option<OldFile>,
+    cache: &Option<Store<H>>,
     number: u32,
     head: &Hash,
     secret: &Key,
     generation: u32,
+    ring: &KeyRing,
     key: &Key,
 ) -> Result<StepMade, Memory>
     requires number { 2 ≤ number }
     requires op { IsProper op }
     requires generation { (1 ≤ generation) × (generation ≤ 64) }
-    ensures step { IfOk result (λ made. IsStepRequest S.sealed S.signed H.hashed secret.now key.now generation number head.now op table.now.tree left.now made.request) }
-    ensures pointers { IfOk result (λ made. OnceAllStored H.hashed S.sealed generation key.now made.request.blocks (λ vault. AllHold vault (look table.now.tree) left.now → AllHold vault (look table.now.tree) made.pointers)) }
+    requires keyed { key_at ring.now generation ≡ Some key.now }
+    ensures step { IfOk result (λ made. IsStepRequest S.sealed S.signed H.hashed secret.now key.now generation number head.now op table.now.tree left.old cache.now (key_at ring.now) old made.request) }
+    ensures pointers { IfOk result (λ made. KeepsStep S.sealed H.hashed cache.now (key_at ring.now) table.now.tree left.old op.change old made.request.blocks made.pointers) }
+    ensures left { AreOf left.new left.old }
 {
     table.is_well_formed();
     let device = op.device;
     let seq = op.seq;
     let moment = op.moment;
-    let built = build::<S, H>(alloc, table, left, key, generation)?;
+    let built = build_step::<S, H>(alloc, table, left, &op, old, cache, ring, generation)?;
     let mtime = root_mtime(table);
     let private = seal_step::<S>(alloc, built.root, mtime, op, key)?;
     let bytes = sign_step::<S>(
@@ -138,7 +147,8 @@ pub fn step_request<S: Sealer, H: BlockHash>(
     })
 }
 
-/// Where the left pointers hold their rows in the folder's blocks, the request is for the machine's ask.
+/// Where the left pointers hold their rows in blocks of the cache that the folder has too, the request is for the
+/// machine's ask.
 pub fn step_law<S: Sealer, H: BlockHash>()
     ensures { (seed : List ℕ) (names : Names) → StepsAreFor S.sealed S.signed H.hashed seed names }
 {}

@@ -9,6 +9,7 @@ mod generated;
 mod journal;
 mod looks;
 mod members;
+mod patches;
 mod random;
 mod ranges;
 mod scripts;

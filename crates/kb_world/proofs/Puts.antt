@@ -23,6 +23,7 @@ use Rattle.kb_device.specs.Waits.{Waiting, Nothing, Asked, Answered, WaitingMeet
 use Rattle.kb_world.specs.Machine.{Member, IsNotAsked, PutsAsk, PutsNone, landed}
 use Rattle.kb_world.specs.Good.{MemberMeets}
 use Rattle.kb_snap.proofs.Lists.{append_none}
+use Rattle.kb_device.proofs.Sent.{sent_stays}
 use Rattle.kb_device.proofs.Parts.{at_session}
 use Rattle.kb_device.proofs.Puts.{land_follows}
 use Rattle.kb_device.proofs.Steps.{refused}
@@ -124,9 +125,9 @@ module _ (sealed signed : List ℕ → List ℕ → List ℕ) (hashed : List ℕ
   flight_at d f c v p s a h was flies = (inside_at sealed signed hashed seed names d f c v p s was h).flight ∙ ap (option_map (λ (b : Aloft). b.flight)) flies
 
   -- what a request that is kept waits for
-  asked_by : (f : Held) (v : inner.Member) (k : waits.Waiting) (request : FolderRequest) (u : Waiting) → k ≡ kept.Request request → WaitsFor sealed signed hashed seed names f v k u → (ask : Ask) × (u ≡ Asked ask) × IsFor sealed signed hashed seed names f request ask × Sent sealed hashed seed request v
+  asked_by : (f : Held) (v : inner.Member) (k : waits.Waiting) (request : FolderRequest) (u : Waiting) → k ≡ kept.Request request → WaitsFor sealed signed hashed seed names f v k u → (ask : Ask) × (u ≡ Asked ask) × IsFor sealed signed hashed seed names f request ask × Sent sealed hashed seed f request v
   asked_by f v k request u is h = by u (subst (λ l. WaitsFor sealed signed hashed seed names f v l u) is h) where
-    by : (u : Waiting) → WaitsFor sealed signed hashed seed names f v (kept.Request request) u → (ask : Ask) × (u ≡ Asked ask) × IsFor sealed signed hashed seed names f request ask × Sent sealed hashed seed request v
+    by : (u : Waiting) → WaitsFor sealed signed hashed seed names f v (kept.Request request) u → (ask : Ask) × (u ≡ Asked ask) × IsFor sealed signed hashed seed names f request ask × Sent sealed hashed seed f request v
     by Nothing h = absurd h
     by (Asked ask) h = (ask, refl, h.0, h.1)
     by (Answered put) h = absurd h
@@ -166,7 +167,7 @@ module _ (sealed signed : List ℕ → List ℕ → List ℕ) (hashed : List ℕ
 
     waits_longer : (d : ℕ) (name : List ℕ) (v : inner.Member) (p : Part) (k : waits.Waiting) (u : Waiting) → PartMeets d c p → WaitingMeets d c name p u → DS d f c v p → WaitsFor sealed signed hashed seed names f v k u → WaitsFor sealed signed hashed seed names g v k u
     waits_longer d name v p kept.Nothing Nothing part meets h stands = tt
-    waits_longer d name v p (kept.Request request) (Asked ask) part meets h stands = (request_stays f g c grew.0 request ask grows has long stands.0, stands.1)
+    waits_longer d name v p (kept.Request request) (Asked ask) part meets h stands = (request_stays f g c grew.0 request ask grows has long stands.0, sent_stays sealed signed hashed seed names f g v request grows stands.1)
     waits_longer d name v p (kept.Answer answer) (Answered put) part meets h stands = (stands.0, answer_longer d v p answer put part meets stands.0 h stands.1)
     waits_longer d name v p kept.Nothing (Asked ask) part meets h stands = absurd stands
     waits_longer d name v p kept.Nothing (Answered put) part meets h stands = absurd stands

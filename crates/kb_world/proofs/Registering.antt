@@ -23,7 +23,8 @@ use Rattle.kb_device.specs.Parts.{Part}
 use Rattle.kb_device.specs.Waits.{Waiting, Nothing, Asked, Answered}
 use Rattle.kb_device.specs.Stands as inner
 use Rattle.kb_device.specs.Stands.{PlanStands, SessionStands, DeviceStands}
-use Rattle.kb_device.specs.Noting.{AnswerStands}
+use Rattle.kb_device.specs.Caches.{Cache}
+use Rattle.kb_device.specs.Noting.{Sent, AnswerStands}
 use Rattle.kb_device.specs.declared.answers.PutAnswer.{PutAnswer}
 use Rattle.kb_world.specs.Machine.{Member}
 use Rattle.kb_world.specs.Standing.{WaitsFor, DeclaredStands}
@@ -52,11 +53,11 @@ module _ (sealed signed : List ℕ → List ℕ → List ℕ) (hashed : List ℕ
 
   -- ---- a device's session
 
-  remembers_one : (c : Chain) (known : ℕ) (hash : List ℕ) (generation : ℕ) (k : Kept) → Remembers sealed hashed seed f c known hash generation k → Remembers sealed hashed seed with_one c known hash generation k
-  remembers_one c known hash generation k h = record { within = h.within; hash_is = h.hash_is; generation_is = h.generation_is; held = h.held }
+  remembers_one : (c : Chain) (known : ℕ) (hash : List ℕ) (generation : ℕ) (k : Kept) (cache : Cache) → Remembers sealed hashed seed f c known hash generation k cache → Remembers sealed hashed seed with_one c known hash generation k cache
+  remembers_one c known hash generation k cache h = record { within = h.within; hash_is = h.hash_is; generation_is = h.generation_is; held = h.held }
 
   plan_one : (c : Chain) (known : ℕ) (x : Plan) → PlanStands sealed hashed seed f c known x → PlanStands sealed hashed seed with_one c known x
-  plan_one c known x h = record { merged = h.merged; remembers = remembers_one c x.number x.hash x.generation x.kept h.remembers; ring = h.ring; base = h.base; ops = h.ops; plain = h.plain }
+  plan_one c known x h = record { merged = h.merged; remembers = remembers_one c x.number x.hash x.generation x.kept x.cache h.remembers; ring = h.ring; base = h.base; ops = h.ops; plain = h.plain }
 
   session_one : (c : Chain) (s : Inside) (p : Part) → SessionStands sealed signed hashed seed names f c s p → SessionStands sealed signed hashed seed names with_one c s p
   session_one c s p h = record {
@@ -65,8 +66,9 @@ module _ (sealed signed : List ℕ → List ℕ → List ℕ) (hashed : List ℕ
     base = h.base;
     shown = h.shown;
     role = h.role;
-    remembers = remembers_one c s.journal.known s.journal.hash s.generation s.kept h.remembers;
+    remembers = remembers_one c s.journal.known s.journal.hash s.generation s.kept s.cache h.remembers;
     held = h.held;
+    written = h.written;
     ring = h.ring;
     flight = h.flight;
     plan = h.plan;
@@ -88,6 +90,9 @@ module _ (sealed signed : List ℕ → List ℕ → List ℕ) (hashed : List ℕ
       inside (Some s) h = session_one c s p h
 
   -- ---- what waits
+
+  sent_one : (v : inner.Member) (request : FolderRequest) → Sent sealed hashed seed f request v → Sent sealed hashed seed with_one request v
+  sent_one v request h = λ s a was flies. let r = h s a was flies in record { few = r.few; within = r.within; cached = r.cached; holds = r.holds }
 
   answer_one : (v : inner.Member) (answer : PutAnswer) → AnswerStands sealed hashed seed f v answer → AnswerStands sealed hashed seed with_one v answer
   answer_one v answer h = λ s a n was flies ok. let landed = h s a n was flies ok in record { hash_is = landed.hash_is; held = landed.held }
@@ -123,7 +128,7 @@ module _ (sealed signed : List ℕ → List ℕ → List ℕ) (hashed : List ℕ
 
     waits_one : (c : Chain) (v : inner.Member) (k : waits.Waiting) (u : Waiting) → HasChain sealed signed hashed seed names f c → WaitsFor sealed signed hashed seed names f v k u → WaitsFor sealed signed hashed seed names with_one v k u
     waits_one c v kept.Nothing Nothing has h = tt
-    waits_one c v (kept.Request request) (Asked ask) has h = (for_one c request ask has h.0, h.1)
+    waits_one c v (kept.Request request) (Asked ask) has h = (for_one c request ask has h.0, sent_one v request h.1)
     waits_one c v (kept.Answer answer) (Answered put) has h = (h.0, answer_one v answer h.1)
     waits_one c v kept.Nothing (Asked ask) has h = absurd h
     waits_one c v kept.Nothing (Answered put) has h = absurd h

@@ -37,7 +37,7 @@ waiting_closed d c name p w h closed = sym (waiting_open d c name p w h) ∙ ap 
 module _ (sealed signed : List ℕ → List ℕ → List ℕ) (hashed : List ℕ → List ℕ) (seed : List ℕ) (names : Names) (f : Held) where
   pub waits_on : (v u : inner.Member) (k : waits.Waiting) (w : Waiting) → WaitsOn sealed hashed seed v u → WaitsFor sealed signed hashed seed names f v k w → WaitsFor sealed signed hashed seed names f u k w
   waits_on v u kept.Nothing Nothing on h = tt
-  waits_on v u (kept.Request request) (Asked ask) on h = (h.0, on.sent request h.1)
+  waits_on v u (kept.Request request) (Asked ask) on h = (h.0, on.sent f request h.1)
   waits_on v u (kept.Answer answer) (Answered put) on h = (h.0, on.answer f answer h.1)
   waits_on v u kept.Nothing (Asked ask) on h = absurd h
   waits_on v u kept.Nothing (Answered put) on h = absurd h

@@ -27,7 +27,7 @@ module _ (sealed signed : List ℕ → List ℕ → List ℕ) (hashed : List ℕ
   -- What is kept for a device is what waits for it: the request of its flight, or the answer to its put.
   abbrev pub WaitsFor : Held → inner.Member → waits.Waiting → Waiting → Type 0
   WaitsFor f v kept.Nothing Nothing = Unit {0}
-  WaitsFor f v (kept.Request request) (Asked ask) = IsFor sealed signed hashed seed names f request ask × Sent sealed hashed seed request v
+  WaitsFor f v (kept.Request request) (Asked ask) = IsFor sealed signed hashed seed names f request ask × Sent sealed hashed seed f request v
   WaitsFor f v (kept.Answer answer) (Answered put) = Means answer.number put × AnswerStands sealed hashed seed f v answer
   WaitsFor f v it waiting = ⊥
 

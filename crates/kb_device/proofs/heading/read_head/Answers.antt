@@ -79,10 +79,10 @@ returns-clause-stands g c seed names chain known has secret_is member gen_is sta
     let gen = generation_there g.S.Sealer.sealed g.S.Sealer.signed g.H.BlockHash.hashed seed names f chain known c.args.d c.args.secret.now c.args.generation has secret_is member within lent is i last item at in
     let tree = c.in-Ok-read_tree.ensures seed names p.older_bytes p.older p.plain written keys in
     let hash_is : c.hash_of-hash.result ≡ sha256 item = c.hash_of-hash.ensures ∙ ap sha256 c.deref-2.ensures.value in
-    let all = head_stands g.S.Sealer.sealed g.S.Sealer.signed g.H.BlockHash.hashed seed names f chain known c.args.d c.args.secret.now c.args.generation has secret_is member within lent is i last item at c.length-number.result c.in-Ok-read_tree.made.0.tree c.in-Ok-read_tree.made.1
+    let all = head_stands g.S.Sealer.sealed g.S.Sealer.signed g.H.BlockHash.hashed seed names f chain known c.args.d c.args.secret.now c.args.generation has secret_is member within lent is i last item at c.length-number.result c.in-Ok-read_tree.made.0.tree c.in-Ok-read_tree.made.1 c.in-Ok-read_tree.made.2
     c.fill.new.ring c.length-number.ensures ring tree.0 tree.1 in (
-      subst (λ h. (let r : Read = record { number = c.length-number.result; hash = h; tree = c.in-Ok-read_tree.made.0.tree; kept = c.in-Ok-read_tree.made.1; ring = c.fill.new.ring; generation = c.generation-most.result } in ReadStands g.S.Sealer.sealed g.H.BlockHash.hashed seed f chain r)) (sym hash_is)
-          (subst (λ n. (let r : Read = record { number = c.length-number.result; hash = sha256 item; tree = c.in-Ok-read_tree.made.0.tree; kept = c.in-Ok-read_tree.made.1; ring = c.fill.new.ring; generation = n } in ReadStands g.S.Sealer.sealed g.H.BlockHash.hashed seed f chain r)) (sym most_is) all.0),
+      subst (λ h. (let r : Read = record { number = c.length-number.result; hash = h; tree = c.in-Ok-read_tree.made.0.tree; kept = c.in-Ok-read_tree.made.1; cache = c.in-Ok-read_tree.made.2; ring = c.fill.new.ring; generation = c.generation-most.result } in ReadStands g.S.Sealer.sealed g.H.BlockHash.hashed seed f chain r)) (sym hash_is)
+          (subst (λ n. (let r : Read = record { number = c.length-number.result; hash = sha256 item; tree = c.in-Ok-read_tree.made.0.tree; kept = c.in-Ok-read_tree.made.1; cache = c.in-Ok-read_tree.made.2; ring = c.fill.new.ring; generation = n } in ReadStands g.S.Sealer.sealed g.H.BlockHash.hashed seed f chain r)) (sym most_is) all.0),
       all.1,
       c.role-role.ensures ∙ ap (λ p. role_at p.0 c.args.d) c.policy-policy.ensures ∙ role_there g.S.Sealer.sealed g.S.Sealer.signed g.H.BlockHash.hashed seed names f chain known c.args.d c.args.secret.now c.args.generation has secret_is member within,
       subst (λ n. 1 ≤ n) (sym most_is) gen.0,

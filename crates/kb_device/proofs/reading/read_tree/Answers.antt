@@ -3,7 +3,7 @@ use Rattle.std.specs.FinMap.{get}
 use Rattle.kb_folder.specs.Chains.{tree_at}
 use Rattle.kb_folder.specs.Held.{held}
 use Rattle.kb_device.proofs.Keys.{refused, mapped}
-use Rattle.kb_device.proofs.Written.{no_key, is_private, opens, held_there, all_there}
+use Rattle.kb_device.proofs.Written.{no_key, is_private, opens, held_there, all_known}
 use Rattle.kb_device.proofs.reading.read_tree.Goals as goal
 
 pub returns-in-Err : goal.returns-in-Err
@@ -28,5 +28,5 @@ returns g c seed names bs chain x w stands =
     let is = c.in-Ok-open.ensures w.spells.private private opened in
     let there = held_there g.S.Sealer.sealed g.S.Sealer.signed g.H.BlockHash.hashed seed names (get (held c.args.folder.now).blocks) bs chain c.args.bytes.now x w c.args.ring.now stands c.in-Ok.revision read_is c.in-Ok-open.private is in
     mapped c.load_tree.result _ _
-    (λ made h. (h.0, all_there g.S.Sealer.sealed g.S.Sealer.signed g.H.BlockHash.hashed seed names (get (held c.args.folder.now).blocks) bs chain c.args.bytes.now x w c.args.ring.now stands c.in-Ok.revision read_is made.0.tree made.1 h.1))
+    (λ made h. (h.0, all_known g.S.Sealer.sealed g.S.Sealer.signed g.H.BlockHash.hashed seed names (get (held c.args.folder.now).blocks) bs chain c.args.bytes.now x w c.args.ring.now stands c.in-Ok.revision read_is made.0.tree made.1 made.2 h.1))
     (c.load_tree.ensures (tree_at (x ∷ chain) (length (x ∷ chain))) there)

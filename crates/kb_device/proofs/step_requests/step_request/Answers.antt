@@ -16,6 +16,9 @@ returns-clause-step g c =
       is_private = c.in_ok-private.ensures.is;
       is = subst (λ p. IsRevision (with_signature (step_unsigned a.number a.head.now a.op.device a.op.moment a.generation a.op.seq p) (g.S.Sealer.signed a.secret.now (signed_text (step_unsigned a.number a.head.now a.op.device a.op.moment a.generation a.op.seq p))))) sealed_is c.in_ok-bytes.ensures.is;
       spelled = c.new.ensures ∙ c.in_ok-bytes.ensures.bytes ∙ ap (λ p. revision_text (with_signature (step_unsigned a.number a.head.now a.op.device a.op.moment a.generation a.op.seq p) (g.S.Sealer.signed a.secret.now (signed_text (step_unsigned a.number a.head.now a.op.device a.op.moment a.generation a.op.seq p))))) sealed_is;
-      held = λ blocks keys known stored. c.in_ok-built.ensures.tree blocks keys known (subst (AllByRecursion (λ b. blocks (g.H.BlockHash.hashed b) ≡ Some b)) (c.new-2.ensures ∙ c.into_vec.ensures) stored);
+      held = λ few cached grounds blocks keys stays known stored. (c.in_ok-built.ensures.holds few cached grounds blocks keys stays known (subst (AllByRecursion (λ b. blocks (g.H.BlockHash.hashed b) ≡ Some b)) (c.new-2.ensures ∙ c.into_vec.ensures) stored)).0;
       halves = c.new-4.ensures ∙ c.new-3.ensures.items;
     }
+
+pub returns-clause-pointers : goal.returns-clause-pointers
+returns-clause-pointers g c few cached grounds blocks keys stays known stored = (c.in_ok-built.ensures.holds few cached grounds blocks keys stays known (subst (AllByRecursion (λ b. blocks (g.H.BlockHash.hashed b) ≡ Some b)) (c.new-2.ensures ∙ c.into_vec.ensures) stored)).1
