@@ -15,7 +15,7 @@ pub audit-requires-clause-many : goal.audit-requires-clause-many
 audit-requires-clause-many g c =
     let h = c.requires in
     subst (λ n. n < 2 ^ 32) (length-map c.revisions-revisions.result.now (λ b. b.items))
-        (few_revisions g.S.Sealer.sealed g.S.Sealer.signed g.H.BlockHash.hashed c.args.secrets.now h.0 (held c.args.folder.now) h.1 h.2 (map (λ b. b.items) c.revisions-revisions.result.now) c.revisions-revisions.ensures)
+    (few_revisions g.S.Sealer.sealed g.S.Sealer.signed g.H.BlockHash.hashed c.args.secrets.now h.0 (held c.args.folder.now) h.1 h.2 (map (λ b. b.items) c.revisions-revisions.result.now) c.revisions-revisions.ensures)
 
 pub returns-in-Ok : goal.returns-in-Ok
 returns-in-Ok g c seed names chain has =
