@@ -114,14 +114,17 @@ module _ (sealed signed : List ℕ → List ℕ → List ℕ) (hashed : List ℕ
           }
 
       -- so no audit tells a reason
-      pub never_bad : WholeIsTold sealed signed hashed → (number : ℕ) (why : AuditWhy) → Audits sealed signed hashed seed (name_at own) (length own) (fin.get store) texts halves (Err (At number why)) → ⊥
-      never_bad law number why told = elim (law seed (name_at own) (length own) (fin.get store) texts halves (Err (At number why)) (few_named (length own) registered) whole told) [ inl e ↦ cc | inr e ↦ cc ]
+      pub never_bad : WholeIsTold sealed signed hashed → (fault : AuditFault) (number : ℕ) (why : AuditWhy) → fault ≡ At number why → Audits sealed signed hashed seed (name_at own) (length own) (fin.get store) texts halves (Err fault) → ⊥
+      never_bad law fault number why is told = elim (law seed (name_at own) (length own) (fin.get store) texts halves (Err fault) (few_named (length own) registered) whole told) [ inl e ↦ cc | inr e ↦ cc ]
 
 module _ {D S H : Type 0} {disks : Ghosts D} {sealers : Seals S} {hashes : Hashes H} where
+  pub sized : (devices : List (Declared D S H disks sealers hashes)) (own : List (List ℕ)) → own ≡ map (λ x. x.name) devices → length own ≡ length devices
+  sized devices own are = ap length are ∙ length-map devices (λ x. x.name)
+
   -- the names in their order are those of the devices
   pub named_so : (names : Names) (devices : List (Declared D S H disks sealers hashes)) (own : List (List ℕ)) → own ≡ map (λ x. x.name) devices → AreNamed names devices → Agree (length own) names (name_at own)
   named_so names devices own are named d low high =
-      let size : length own ≡ length devices = ap length are ∙ length-map devices (λ x. x.name) in
+      let size = sized devices own are in
       let m = member_at devices (d - 1) (omega (arith, low, high, size)) in
       let here : slice_get own (d - 1) ≡ Some m.0.name = ap (λ l. slice_get l (d - 1)) are ∙ slice_get-map (λ x. x.name) devices (d - 1) ∙ ap (option_map (λ x. x.name)) m.1 in
       let back : d - 1 + 1 ≡ d = omega (arith, low) in
