@@ -59,9 +59,9 @@ goes_only s u t op rest queue done same fewer still went =
     let left = subst (λ n. HasDone op s.ahead n s.base t.base s.kept u.kept s.written t.written) (sym ahead) (subst (λ b. HasDone op s.ahead u.ahead s.base b s.kept u.kept s.written t.written) (sym base) (subst (λ w. HasDone op s.ahead u.ahead s.base u.base s.kept u.kept s.written w) (sym written) done)) in
     let goes : GoesAhead s t = record { op = op; rest = rest; queue = queue; done = fewer_left op s.ahead t.ahead s.base t.base s.kept u.kept t.kept s.written t.written left fewer } in
     let session : t ≡ with_flight s t s.aloft =
-        same
-        ∙ ap (λ (x : Inside). (let y : Inside = record x { kept = t.kept; cache = t.cache } in y)) went
-        ∙ (λ i. (let y : Inside = record s { base = sym base i; ahead = sym ahead i; kept = t.kept; cache = t.cache; written = sym written i } in y)) in
+    same
+    ∙ ap (λ (x : Inside). (let y : Inside = record x { kept = t.kept; cache = t.cache } in y)) went
+    ∙ (λ i. (let y : Inside = record s { base = sym base i; ahead = sym ahead i; kept = t.kept; cache = t.cache; written = sym written i } in y)) in
     inr (goes, session, still ∙ ap (λ (x : Inside). x.cache) went)
 
 -- A session with the same queue and the same table shown is owned as before.
