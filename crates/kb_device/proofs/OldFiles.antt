@@ -69,9 +69,9 @@ was_over vault t id moment (Exec node on) kept old fits all at = absurd at
 was_over vault t id moment (Touch node mtime) kept old fits all at = absurd at
 
 -- The base table goes ahead, by what was prepared of it.
-pub went_ahead : (op : Op) (ahead : ℕ) (base mid base' done : Tree) (kept kept' : Kept) (written written' : Option OldFile) → mid ≡ base → done ≡ apply op base → ahead ≡ 0 → Fits op base → base' ≡ done
+pub went_ahead : (op : Op) (ahead : ℕ) (base mid base' : Tree) (done : Tree → Tree) (kept kept' : Kept) (written written' : Option OldFile) → mid ≡ base → done base ≡ apply op base → ahead ≡ 0 → Fits op base → base' ≡ done mid
     → ((q : NodeId) → get kept' q ≡ left_of mid op.change q (get kept q)) → ((old : OldFile) → written' ≡ Some old → WasAt mid kept op.change old) → HasDone op ahead 1 base base' kept kept' written written'
 went_ahead op ahead base mid base' done kept kept' written written' stays does none fits is leaves was = record {
   ahead_is = refl;
-  does = inr (none, fits, is ∙ does, (λ q p at. subst (λ (t : Tree). left_of t op.change q (get kept q) ≡ Some p) stays (sym (leaves q) ∙ at)), (λ old at. subst (λ (t : Tree). WasAt t kept op.change old) stays (was old at)));
+  does = inr (none, fits, is ∙ ap done stays ∙ does, (λ q p at. subst (λ (t : Tree). left_of t op.change q (get kept q) ≡ Some p) stays (sym (leaves q) ∙ at)), (λ old at. subst (λ (t : Tree). WasAt t kept op.change old) stays (was old at)));
 }

@@ -3,11 +3,14 @@ use Rattle.std.proofs.Common.{◌≡◌, ℕ, false, List, ◌∷◌, Option, No
 use Rattle.std.specs.FinMap.{get}
 use Rattle.kb_ops.specs.declared.rows.Op.{Op}
 use Rattle.kb_ops.specs.Trees.{Tree}
+use Rattle.kb_journal.specs.State.{State, last_seq}
+use Rattle.kb_snap.specs.Lawful.{AreOf as AreBy}
 use Rattle.kb_snap.specs.Pointers.{Kept}
 use Rattle.kb_device.specs.Left.{AreOf}
 use Rattle.kb_device.specs.Caches.{Takes}
 use Rattle.kb_device.specs.Inside.{Aloft, Inside, HasDone}
-use Rattle.kb_device.specs.Picking.{Picks, IsMade, with_flight, with_left}
+use Rattle.kb_device.specs.Fresh.{IdsEndAt, IsOwned}
+use Rattle.kb_device.specs.Picking.{Picks, GoesAhead, MayGoAhead, IsMade, with_flight, with_left}
 use Rattle.kb_device.specs.declared.answers.Picked.{Picked}
 use Rattle.kb_device.specs.declared.patching.OldFile.{OldFile}
 
@@ -45,3 +48,25 @@ picks_made sealed signed hashed secret s u t picked a op rest free clear queue d
       made = subst (λ m. IsMade sealed signed hashed secret (record t { aloft = Some a }) op u.kept m picked a) cache (record { seq = made.seq; number = made.number; flight = made.flight; key = made.key; keyed = made.keyed; made = made.made; pointers = made.pointers });
       takes = subst (λ m. Takes hashed m picked.request.blocks t.cache) cache takes;
     }
+
+-- The session went ahead, and no request was made.
+pub goes_only : (s u t : Inside) (op : Op) (rest : List Op) → s.journal.queue ≡ op ∷ rest → HasDone op s.ahead u.ahead s.base u.base s.kept u.kept s.written u.written → t ≡ with_left u t → AreOf t.kept u.kept → t.cache ≡ u.cache
+    → u ≡ record s { base = u.base; ahead = u.ahead; kept = u.kept; written = u.written } → MayGoAhead s t
+goes_only s u t op rest queue done same fewer still went =
+    let ahead : t.ahead ≡ u.ahead = ap (λ (x : Inside). x.ahead) same in
+    let base : t.base ≡ u.base = ap (λ (x : Inside). x.base) same in
+    let written : t.written ≡ u.written = ap (λ (x : Inside). x.written) same in
+    let left = subst (λ n. HasDone op s.ahead n s.base t.base s.kept u.kept s.written t.written) (sym ahead) (subst (λ b. HasDone op s.ahead u.ahead s.base b s.kept u.kept s.written t.written) (sym base) (subst (λ w. HasDone op s.ahead u.ahead s.base u.base s.kept u.kept s.written w) (sym written) done)) in
+    let goes : GoesAhead s t = record { op = op; rest = rest; queue = queue; done = fewer_left op s.ahead t.ahead s.base t.base s.kept u.kept t.kept s.written t.written left fewer } in
+    let session : t ≡ with_flight s t s.aloft =
+    same
+    ∙ ap (λ (x : Inside). (let y : Inside = record x { kept = t.kept; cache = t.cache } in y)) went
+    ∙ (λ i. (let y : Inside = record s { base = sym base i; ahead = sym ahead i; kept = t.kept; cache = t.cache; written = sym written i } in y)) in
+    inr (goes, session, still ∙ ap (λ (x : Inside). x.cache) went)
+
+-- A session with the same queue and the same table shown is owned as before.
+pub owned_on : (d : ℕ) (s t : Inside) → t.journal ≡ s.journal → t.shown ≡ s.shown → IsOwned d s → IsOwned d t
+owned_on d s t journal shown h = record {
+  own = subst (λ (j : State). AreBy d j.queue) (sym journal) h.own;
+  fresh = subst (λ (j : State). IdsEndAt d (last_seq j) t.shown) (sym journal) (subst (IdsEndAt d (last_seq s.journal)) (sym shown) h.fresh);
+}

@@ -463,6 +463,8 @@ module _ (sealed signed : List ℕ → List ℕ → List ℕ) (hashed : List ℕ
           };
           ring = y.ring;
           base = y.base;
+          ops = y.ops;
+          plain = y.plain;
         });
       }
 

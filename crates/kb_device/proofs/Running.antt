@@ -19,15 +19,15 @@ fits_next s op rest r queue none =
 
 rest_fits : (op : Op) (rest : List Op) (ahead ahead' : ℕ) (base base' : Tree) (kept kept' : Kept) (written written' : Option OldFile) → HasDone op ahead ahead' base base' kept kept' written written' → FitAll (drop ahead (op ∷ rest)) base → FitAll rest base'
 rest_fits op rest ahead ahead' base base' kept kept' written written' d fit = elim d.does [
-  | inl (one, same, _) ↦ subst (λ t. FitAll rest t) (sym same) (subst (λ n. FitAll (drop n (op ∷ rest)) base) one fit)
-  | inr (none, fits, does, _) ↦ subst (λ t. FitAll rest t) (sym does) (subst (λ n. FitAll (drop n (op ∷ rest)) base) none fit).1
+  | inl (one, same, _, _) ↦ subst (λ t. FitAll rest t) (sym same) (subst (λ n. FitAll (drop n (op ∷ rest)) base) one fit)
+  | inr (none, fits, does, _, _) ↦ subst (λ t. FitAll rest t) (sym does) (subst (λ n. FitAll (drop n (op ∷ rest)) base) none fit).1
 ]
 
 -- and makes the same tree
 rest_makes : (op : Op) (rest : List Op) (ahead ahead' : ℕ) (base base' : Tree) (kept kept' : Kept) (written written' : Option OldFile) → HasDone op ahead ahead' base base' kept kept' written written' → fold_ops (drop ahead (op ∷ rest)) base ≡ fold_ops rest base'
 rest_makes op rest ahead ahead' base base' kept kept' written written' d = elim d.does [
-  | inl (one, same, _) ↦ ap (λ n. fold_ops (drop n (op ∷ rest)) base) one ∙ ap (fold_ops rest) (sym same)
-  | inr (none, fits, does, _) ↦ ap (λ n. fold_ops (drop n (op ∷ rest)) base) none ∙ ap (fold_ops rest) (sym does)
+  | inl (one, same, _, _) ↦ ap (λ n. fold_ops (drop n (op ∷ rest)) base) one ∙ ap (fold_ops rest) (sym same)
+  | inr (none, fits, does, _, _) ↦ ap (λ n. fold_ops (drop n (op ∷ rest)) base) none ∙ ap (fold_ops rest) (sym does)
 ]
 
 -- a session whose base table went ahead

@@ -98,6 +98,10 @@ can_be s x h =
       keyed = rest_so (nat_le x.generation 64) _ h7;
     }
 
+-- so it is of a plan whose cache took more blocks
+pub can_grown : (s : Inside) (x : Plan) (cache : Cache) → CanSettle s x → CanSettle s (grown x cache)
+can_grown s x cache h = record { some = h.some; few = h.few; from = h.from; behind = h.behind; next = h.next; first = h.first; last = h.last; keyed = h.keyed }
+
 -- two facts of what was made give a third
 pub both : {A E : Type 0} (r : Result A E) (P Q R : A → Type 0) → ((a : A) → P a → Q a → R a) → IfOk r P → IfOk r Q → IfOk r R
 both (Ok a) P Q R f p q = f a p q

@@ -134,7 +134,7 @@ impl<D: Disk, H: BlockHash> Session<D, H> {
         alloc: Global,
         op: Op,
         secret: &Key,
-    ) -> Result<(Picked, Flight), PickFault>
+    ) -> Result<(Picked, Flight), Memory>
         requires known { 1 ≤ self.old.journal.state.known }
         requires proper { IsProper op }
         requires generation { (1 ≤ self.old.generation) × (self.old.generation ≤ 64) }
@@ -145,11 +145,10 @@ impl<D: Disk, H: BlockHash> Session<D, H> {
         ensures left { AreOf self.new.pointers self.old.pointers }
         ensures cache { OnErr result (self.new.cache ≡ self.old.cache) }
         ensures journal { self.new.journal ≡ self.old.journal }
-        ensures memory { OnErr result (result ≡ Err fault.Memory) }
     {
         let seq = op.seq;
         let Some(number) = self.journal.known().checked_add(1) else {
-            return Err(PickFault::Memory);
+            return Err(Memory);
         };
         let Some(key) = self.ring.key(self.generation) else {
             unreachable!()
@@ -170,13 +169,13 @@ impl<D: Disk, H: BlockHash> Session<D, H> {
             key,
         ) {
             Ok(made) => made,
-            Err(Memory) => return Err(PickFault::Memory),
+            Err(Memory) => return Err(Memory),
         };
         let StepMade { request, pointers } = made;
         let blocks = request.blocks.as_slice();
         match keep_blocks(&mut self.cache, blocks) {
             Ok(()) => {}
-            Err(Memory) => return Err(PickFault::Memory),
+            Err(Memory) => return Err(Memory),
         }
         let picked = Picked {
             seq,
@@ -218,7 +217,10 @@ impl<D: Disk, H: BlockHash> Session<D, H> {
             Ok(()) => {}
             Err(Memory) => return Err(PickFault::Memory),
         }
-        let (picked, flight) = self.request::<S>(alloc, op, secret)?;
+        let (picked, flight) = match self.request::<S>(alloc, op, secret) {
+            Ok(made) => made,
+            Err(Memory) => return Err(PickFault::Memory),
+        };
         self.aloft = Some(flight);
         Ok(picked)
     }

@@ -129,7 +129,13 @@ fn step(alloc: Global, old: &[u8], op: &Op, new: &[u8]) -> Result<(usize, Option
         return Ok((0, None));
     };
     store.put_all(made.blocks.as_slice())?;
-    let (again, _) = load::<HmacSealer, Sha256Hash>(alloc, made.root, Moment::START, &ring, &store)?;
+    let (again, _) = load::<HmacSealer, Sha256Hash>(
+        alloc,
+        made.root,
+        Moment::START,
+        &ring,
+        &store,
+    )?;
     let rows = after.rows()?;
     let loaded = again.rows()?;
     if rows.as_slice() != loaded.as_slice() {

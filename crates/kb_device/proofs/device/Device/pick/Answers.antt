@@ -31,7 +31,7 @@ returns-clause-goes g c seed names v view =
 
 pub returns-in_default-clause-waits : goal.returns-in_default-clause-waits
 returns-in_default-clause-waits g c seed v view =
-    (v, same_view c.args.self.now _ v refl refl refl refl refl view, record { sent = λ request h. h; answer = λ f answer h. h })
+    (v, same_view c.args.self.now _ v refl refl refl refl refl view, record { sent = λ f request h. h; answer = λ f answer h. h })
 
 pub returns-clause-waits : goal.returns-clause-waits
 returns-clause-waits g c = err_by c.pick.result (λ fault is seed v view. (

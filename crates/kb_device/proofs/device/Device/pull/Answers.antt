@@ -46,7 +46,7 @@ returns-clause-goes g c seed names v view =
 
 pub returns-in_default-clause-waits : goal.returns-in_default-clause-waits
 returns-in_default-clause-waits g c seed v view =
-    (v, same_view c.args.self.now _ v refl refl refl refl refl view, record { sent = λ request h. h; answer = λ f answer h. h })
+    (v, same_view c.args.self.now _ v refl refl refl refl refl view, record { sent = λ f request h. h; answer = λ f answer h. h })
 
 pub returns-then-not-has_stopped_pulling-clause-waits : goal.returns-then-not-has_stopped_pulling-clause-waits
 returns-then-not-has_stopped_pulling-clause-waits g c = going_by c.pull-pulled.result (λ seed v view. (

@@ -1,11 +1,11 @@
-use Rattle.std.proofs.Common.{Ok, Err, refl, sym, ap, ◌∙◌}
+use Rattle.std.proofs.Common.{Ok, Err, inr, refl, sym, ap, ◌∙◌}
 use Rattle.std.specs.Option.{option_map}
 use Rattle.sha2.specs.Sha256.{sha256}
 use Rattle.kb_keys.specs.Policies.{role_at}
 use Rattle.kb_folder.specs.Held.{held}
 use Rattle.kb_device.specs.Inside.{Inside}
 use Rattle.kb_device.specs.Views.{inside, plan_of, platter}
-use Rattle.kb_device.proofs.Settlings.{can_be, runs_unplanned, no_stop, asks_by, settles, settle_stops}
+use Rattle.kb_device.proofs.Settlings.{can_be, can_grown, runs_unplanned, no_stop, asks_by, settles, settle_stops}
 use Rattle.kb_device.proofs.Shared.{takes_of}
 use Rattle.kb_device.proofs.session.Session.settle.Goals as goal
 
@@ -29,7 +29,19 @@ returns-in-Err-put g c =
     }
 
 pub resolve-requires-clause-can : goal.resolve-requires-clause-can
-resolve-requires-clause-can g c = can_be _ (plan_of c.in-Some.goal) (sym c.can_settle.ensures ∙ c.if-not-can_settle.false)
+resolve-requires-clause-can g c = can_grown _ (plan_of c.in-Some.goal) c.keep_blocks.new.cache (can_be _ (plan_of c.in-Some.goal) (sym c.can_settle.ensures ∙ c.if-not-can_settle.false))
+
+pub returns-then-lacks_memory-clause-does : goal.returns-then-lacks_memory-clause-does
+returns-then-lacks_memory-clause-does g c = inr (record {
+  folder = c.in-Err-put.ensures.put.1;
+  plan = plan_of c.in-Some.goal;
+  planned = ap (option_map plan_of) (sym c.take.ensures.value ∙ c.in-Some.is);
+  made = c.in-Ok.made.request.blocks;
+  cache = c.keep_blocks.new.cache;
+  takes = takes_of g.H.BlockHash.hashed _ _ _ _ c.as_slice-blocks.ensures c.in-Ok-keep_blocks.ensures.takes;
+  session = refl;
+  disk = refl;
+})
 
 pub returns-in-Ok-resolve-clause-does : goal.returns-in-Ok-resolve-clause-does
 returns-in-Ok-resolve-clause-does g c =
