@@ -60,18 +60,15 @@ fn find_area<D: Disk>(disk: &mut D, size: u32) -> Result<Option<u32>, Stopped>
     }
 }
 
-// Reads on in an area, up to so many bytes of it.
-fn read_on<D: Disk>(
+// Reads so many bytes of an area.
+fn read_part<D: Disk>(
     disk: &mut D,
     start: u32,
     text: &mut Vec<u8>,
     most: usize,
 ) -> Result<(), Stopped>
-    requires read { text.old.items ≡ take (length text.old.items) (drop start (D.content disk.old)) }
-    requires more { length text.old.items ≤ most }
     requires room { most ≤ vec_capacity text.old }
     requires range { start + most ≤ length (D.content disk.old) }
-    requires small { length (D.content disk.old) < 2 ^ 32 }
 
     ensures text { OnOk result (text.new.items ≡ take most (drop start (D.content disk.old))) }
     ensures room { vec_capacity text.old ≤ vec_capacity text.new }
@@ -82,29 +79,27 @@ fn read_on<D: Disk>(
     ensures later { D.faults disk.old ≤ D.faults disk.new }
     ensures rose { OnErr result (Rose (D.faults disk.old) (D.faults disk.new)) }
 {
-    let read = text.len();
+    text.clear();
     let Ok(()) = text.resize(most, 0) else {
         unreachable!()
     };
-    disk.read(start + read as u32, &mut text[read..])
+    disk.read(start, text)?;
+    Ok(())
 }
 
-// Reads an area's records and the closed gate behind them, in parts of which each is about as long as all before it.
-// It answers `Stopped`, or `BadLog` exactly where the area has none.
+// Reads an area's records and the closed gate behind them: 512 bytes, and each time more than twice as many, until
+// they are among them. It answers `Stopped`, or `BadLog` exactly where the area has none.
 fn read_records<D: Disk>(
     disk: &mut D,
     start: u32,
     size: u32,
     text: &mut Vec<u8>,
 ) -> Result<(), LogFault>
-    requires none { text.old.items ≡ [] }
     requires room { size ≤ vec_capacity text.old }
     requires range { start + size ≤ length (D.content disk.old) }
-    requires small { length (D.content disk.old) < 2 ^ 31 }
 
     ensures read { OnOk result (IsRead (take size (drop start (D.content disk.old))) text.new.items) }
     ensures bad { IsErrOf result LogFault.BadLog → list_of (take size (drop start (D.content disk.old))) ≡ None }
-    ensures memory { ¬ IsErrOf result LogFault.Memory }
     ensures room { vec_capacity text.old ≤ vec_capacity text.new }
     ensures content { D.content disk.new ≡ D.content disk.old }
     ensures dirty { (place : ℕ) → D.dirty disk.new place ≡ D.dirty disk.old place }
@@ -117,7 +112,7 @@ fn read_records<D: Disk>(
     let mut most = 0;
     while most < size {
         most = size.min(2 * most + 512);
-        read_on(disk, start, text, most)?;
+        read_part(disk, start, text, most)?;
         if let Some(used) = used_in(text) {
             text.truncate(used);
             return Ok(());
@@ -168,7 +163,8 @@ impl Area {
         ensures later { D.faults disk.old ≤ D.faults disk.new }
         ensures rose { OnErr result (Rose (D.faults disk.old) (D.faults disk.new)) }
     {
-        add_record(disk, self.start, &mut self.text, payload)
+        add_record(disk, self.start, &mut self.text, payload)?;
+        Ok(())
     }
 
     /// Writes the records of all pieces to the other area, and chooses it.
