@@ -40,6 +40,19 @@ read_front behind text size most used le is count =
       same = cut ∙ sym (ap (λ (l : List ℕ). take (length (take used text)) l) whole ∙ take_past front (zero ∷ tail) (length (take used text)) 1 long);
     }
 
+pub some_magic : (b : Bool) (found start : ℕ) → Some found ≡ cond b (Some start) None → (b ≡ true) × (found ≡ start)
+some_magic true found start e = (refl, cc)
+some_magic false found start e = absurd cc
+
+-- an image without the magic
+pub no_magic : (image : List ℕ) → None ≡ cond (has_magic image) (Some (area_start image)) None → log_list image ≡ None
+unfolding log_list
+no_magic image none = by (has_magic image) (area_start image) (list_of (take (area_size (length image)) (drop (area_start image) image))) none
+  where
+    by : (b : Bool) (start : ℕ) (o : Option (List (List ℕ))) → None ≡ cond b (Some start) None → cond b o None ≡ None
+    by true start o e = absurd cc
+    by false start o e = refl
+
 listed : (image text : List ℕ) → has_magic image ≡ true → IsRead (take (area_size (length image)) (drop (area_start image) image)) text → log_list image ≡ Some (payloads_of text)
 unfolding log_list
 listed image text magic read = rw magic read.list

@@ -144,8 +144,10 @@ impl Area {
             return Err(LogFault::BadLog);
         };
         let mut text = Vec::with_capacity(alloc, size as usize)?;
-        read_records(disk, start, size, &mut text)?;
-        Ok(Area { start, size, text })
+        match read_records(disk, start, size, &mut text) {
+            Ok(()) => Ok(Area { start, size, text }),
+            Err(fault) => Err(fault),
+        }
     }
 
     /// Adds a payload's record.
