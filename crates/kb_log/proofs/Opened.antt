@@ -1,6 +1,6 @@
 -- What is known of a log that was read.
 use Rattle.std.proofs.Common.{◌≡◌, ℕ, zero, ◌+◌, ◌^◌, ◌≤◌, Bool, true, false, cond, List, [], ◌∷◌, ◌++◌, length, take, drop, Option, None, Some, refl, sym, ap, subst, ◌∙◌, arith, append_assoc, length-append}
-use Rattle.std.specs.Prelude.{unwrap_or, vec_capacity}
+use Rattle.std.specs.Prelude.{unwrap_or, vec_capacity, Result, Err, IsErrOf}
 use Rattle.std.specs.Option.{option_map}
 use Rattle.std.proofs.lemmas.List.{take-append-drop, take-take, length-take}
 use Rattle.kb_log.specs.LogList.{list_of, used_of, has_magic, area_size, area_start, log_list}
@@ -43,6 +43,10 @@ read_front behind text size most used le is count =
 pub some_magic : (b : Bool) (found start : ℕ) → Some found ≡ cond b (Some start) None → (b ≡ true) × (found ≡ start)
 some_magic true found start e = (refl, cc)
 some_magic false found start e = absurd cc
+
+-- a fault that is handed on
+pub as_err : {T U E : Type 0} (x y : E) (r : Result U E) → r ≡ Err x → IsErrOf {T = T} (Err x) y → IsErrOf r y
+as_err x y r is e = let same : x ≡ y = cc in is ∙ ap (λ z. Err z) same
 
 -- an image without the magic
 pub no_magic : (image : List ℕ) → None ≡ cond (has_magic image) (Some (area_start image)) None → log_list image ≡ None

@@ -1,7 +1,8 @@
 use Rattle.std.proofs.Common.{ℕ, ◌-◌, ◌/◌, List, take, drop, sym, ap, subst, ◌∙◌, ◌≡◌, None, arith}
 use Rattle.kb_log.specs.LogList.{list_of, has_magic, area_size, area_start}
 use Rattle.kb_log.specs.State.{IsRead}
-use Rattle.kb_log.proofs.Opened.{some_magic, no_magic, unlisted, opened_settled}
+use Rattle.kb_log.specs.declared.faults.LogFault.TheVariants.{BadLog}
+use Rattle.kb_log.proofs.Opened.{as_err, some_magic, no_magic, unlisted, opened_settled}
 use Rattle.kb_log.proofs.area.Area.load.Goals as goal
 
 pub returns-in_default-clause-bad : goal.returns-in_default-clause-bad
@@ -22,4 +23,4 @@ returns-in-Err-clause-bad g c = λ is.
     let f = c.in_ok-start.ensures in
     let m = some_magic (has_magic before) c.in-Some.start (area_start before) (sym c.in-Some.is ∙ f.start) in
     unlisted before c.in-Some.start ((c.size.result - 16) / 2) m.1 (ap (λ (n : ℕ). (n - 16) / 2) c.size.ensures)
-    (subst (λ (l : List ℕ). list_of (take ((c.size.result - 16) / 2) (drop c.in-Some.start l)) ≡ None) f.content (c.read_records.ensures.bad (c.in-Err.is ∙ is)))
+    (subst (λ (l : List ℕ). list_of (take ((c.size.result - 16) / 2) (drop c.in-Some.start l)) ≡ None) f.content (c.read_records.ensures.bad (as_err c.in-Err.fault BadLog c.read_records.result c.in-Err.is is)))
