@@ -1,5 +1,5 @@
 -- A settled log whose list is replaced.
-use Rattle.std.proofs.Common.{◌≡◌, ◌+◌, ◌%◌, ◌^◌, ◌≤◌, ◌<◌, ℕ, Bool, not, cond, eqb, List, [], ◌∷◌, length, take, ap, sym, subst, ◌∙◌, arith, inl, inr, ◌⊎◌}
+use Rattle.std.proofs.Common.{◌≡◌, ◌+◌, ◌%◌, ◌^◌, ◌≤◌, ◌<◌, ℕ, Bool, not, cond, eqb, List, [], ◌∷◌, length, ap, subst, ◌∙◌, arith, inl, inr, ◌⊎◌}
 use Rattle.kb_edge.specs.Disk.{MayLeave, within, overlay}
 use Rattle.kb_log.specs.Images.{HasEither}
 use Rattle.kb_log.specs.LogList.{used_of, area_size, other_start, is_second}

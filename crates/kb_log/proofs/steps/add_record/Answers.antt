@@ -1,4 +1,4 @@
-use Rattle.std.proofs.Common.{◌≡◌, ◌⊎◌, ◌+◌, ◌-◌, List, ℕ, length, take, drop, OnErr, Result, Ok, Err, ap, subst, ◌∙◌, arith}
+use Rattle.std.proofs.Common.{◌≡◌, ◌⊎◌, ◌+◌, ◌-◌, List, ℕ, length, OnErr, Result, Ok, Err, ap, subst, ◌∙◌, arith}
 use Rattle.kb_edge.specs.Disk.{overlay, within, MayLeave}
 use Rattle.kb_log.specs.LogList.{record_of}
 use Rattle.kb_log.proofs.Records.{put_behind, length-record_of}

@@ -1,4 +1,4 @@
-use Rattle.std.proofs.Common.{◌+◌, ◌-◌, take, drop, length, get_or, ap, arith, rules}
+use Rattle.std.proofs.Common.{◌+◌, ◌-◌, take, drop, get_or, ap, arith, rules}
 use Rattle.kb_log.specs.LogList.{used_of}
 use Rattle.kb_log.specs.Pieces.{pieces}
 use Rattle.kb_log.proofs.Fill.{ends_within, ends_at, pieces_at, used_cons, still_used}

@@ -1,5 +1,5 @@
 use Rattle.std.proofs.Common.{ℕ, ◌-◌, ◌/◌, List, take, drop, sym, ap, subst, ◌∙◌, ◌≡◌, None, arith}
-use Rattle.kb_log.specs.LogList.{list_of, has_magic, area_size, area_start}
+use Rattle.kb_log.specs.LogList.{list_of, has_magic, area_start}
 use Rattle.kb_log.specs.State.{IsRead}
 use Rattle.kb_log.specs.declared.faults.LogFault.TheVariants.{BadLog}
 use Rattle.kb_log.proofs.Opened.{as_err, some_magic, no_magic, unlisted, opened_settled}

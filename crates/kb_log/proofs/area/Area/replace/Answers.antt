@@ -1,6 +1,5 @@
-use Rattle.std.proofs.Common.{inr, refl, arith}
+use Rattle.std.proofs.Common.{inr, refl}
 use Rattle.kb_log.specs.Pieces.{pieces}
-use Rattle.kb_log.proofs.Compact.{other_fits}
 use Rattle.kb_log.proofs.Resettled.{resettled, payloads_settled, image_list}
 use Rattle.kb_log.proofs.Replaced.{replaced, replaced_size, replaced_either}
 use Rattle.kb_log.proofs.area.Area.replace.Goals as goal
