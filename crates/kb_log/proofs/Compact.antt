@@ -151,20 +151,19 @@ module _ (ps qs : List (List ℕ)) (old : List ℕ) (parts : Parts ps old) (low 
   first_area image may = list_from_parts ps image (other_area ps old image (length (records_text qs)) parts low (omega (arith, length-records_text qs)) may).0
 
   -- at the end
-  pub settled_compact : (new text : List ℕ) (v : ℕ) → new ≡ overlay (overlay old (other_start old) (records_text qs)) 8 (v ∷ []) → eqb (v % 2) 1 ≡ not (is_second old) → take (used_of qs) text ≡ records_text qs → length text ≡ area_size (length old)
-      → Settled new qs (other_start old) (used_of qs) text
-  settled_compact new text v new_is turned shown long =
+  pub settled_compact : (new : List ℕ) (v : ℕ) → new ≡ overlay (overlay old (other_start old) (records_text qs)) 8 (v ∷ []) → eqb (v % 2) 1 ≡ not (is_second old) → Settled new qs (other_start old) (records_text qs)
+  settled_compact new v new_is turned =
       let st = overlay old (other_start old) (records_text qs) in
       let one_room : 8 + 1 ≤ length st = omega (arith, st_size, low) in
       let may : MayLeave st (within 8 1) new = subst (λ (l : List ℕ). MayLeave st (within 8 1) l) (sym new_is) (overlay_kept st 8 (v ∷ []) one_room) in
       let selector : get_or new 8 0 ≡ v = ap (λ (l : List ℕ). get_or l 8 0) new_is ∙ get_overlay st 8 v one_room in
       let s = switched new may (ap (λ (b : ℕ). eqb (b % 2) 1) selector ∙ turned) in
+      let n = length (records_text qs) in
       record {
         list = list_from_parts qs new s.parts_new;
         start_is = sym s.start;
-        used_is = refl;
-        size = long ∙ ap area_size (sym s.size);
-        same = shown ∙ sym (ap (λ (l : List ℕ). take (used_of qs) l) s.behind ∙ take_at (records_text qs) (drop (other_start old + length (records_text qs)) old) (used_of qs) (length-records_text qs));
+        used_is = length-records_text qs;
+        same = sym (ap (λ (l : List ℕ). take n l) s.behind ∙ take_at (records_text qs) (drop (other_start old + n) old) n refl);
       }
 
 -- the code's choice of the other area

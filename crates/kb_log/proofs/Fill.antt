@@ -1,10 +1,9 @@
 -- Pieces that are written one after the other.
-use Rattle.std.proofs.Common.{◌≡◌, ℕ, ◌+◌, ◌-◌, ◌*◌, ◌≤◌, ◌<◌, List, [], ◌∷◌, ◌++◌, length, get_or, take, drop, refl, ap, subst, arith, length-append}
+use Rattle.std.proofs.Common.{◌≡◌, ℕ, ◌+◌, ◌-◌, ◌*◌, ◌≤◌, ◌<◌, List, [], ◌∷◌, ◌++◌, length, get_or, drop, refl, ap, subst, arith, length-append}
 use Rattle.std.specs.Prelude.{slice_range}
 use Rattle.std.specs.Int.{w32, to_be_bytes}
-use Rattle.std.proofs.lemmas.List.{drop_more, take_at, length-take, length-drop}
+use Rattle.std.proofs.lemmas.List.{drop_more, length-take, length-drop}
 use Rattle.std.proofs.lemmas.List.Sums.{sum_by-cons}
-use Rattle.kb_edge.specs.Disk.{overlay}
 use Rattle.kb_log.specs.LogList.{used_of}
 use Rattle.kb_log.specs.Pieces.{pieces, AreEnds, open_record, records_text}
 
@@ -28,13 +27,13 @@ length-open_record p = omega (arith, length-append (to_be_bytes w32 (length p)) 
 pub used_cons : (p : List ℕ) (ps : List (List ℕ)) → used_of (p ∷ ps) ≡ 5 + length p + used_of ps
 used_cons p ps = omega (arith, sum_by-cons (λ q. 5 + length q) p ps)
 
--- the front of a text with bytes overlay behind it
-pub front_overlay : (text : List ℕ) (at n : ℕ) (bytes : List ℕ) → n ≡ length bytes → at + length bytes ≤ length text → take (at + n) (overlay text at bytes) ≡ take at text ++ bytes
-front_overlay text at n bytes is le = take_at (take at text ++ bytes) (drop (at + length bytes) text) (at + n) (omega (arith, length-append (take at text) bytes, length-take at text))
-
 pub length-records_text : (ps : List (List ℕ)) → length (records_text ps) ≡ used_of ps
 length-records_text [] = refl
 length-records_text (p ∷ ps) = omega (arith, length-append (open_record p) (records_text ps), length-open_record p, length-records_text ps, used_cons p ps)
+
+-- what stands already and what is left take as much as all
+pub still_used : (text : List ℕ) (rest all : List (List ℕ)) → text ++ records_text rest ≡ records_text all → length text + used_of rest ≡ used_of all
+still_used text rest all e = omega (arith, ap length e, length-append text (records_text rest), length-records_text rest, length-records_text all)
 
 -- what all pieces take
 pub used_total : (from : ℕ) (bytes ends : List ℕ) → AreEnds from bytes ends → used_of (pieces from bytes ends) + from ≡ length bytes + 5 * length ends + 1

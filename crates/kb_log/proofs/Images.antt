@@ -67,6 +67,9 @@ head_same old image k le same size =
 pub start_low : (image : List ℕ) → 16 ≤ area_start image
 start_low image = grind (arith, nat_tests)
 
+pub area_within : (image : List ℕ) → 16 ≤ length image → area_start image + area_size (length image) ≤ length image
+area_within image low = grind (arith, nat_tests)
+
 -- what lies behind the start, up to a place where all before it is the same
 pub behind_same : (old image : List ℕ) (s m : ℕ) → take (s + m) image ≡ take (s + m) old → drop s image ≡ take m (drop s old) ++ drop m (drop s image)
 behind_same old image s m same =

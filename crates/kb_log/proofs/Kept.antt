@@ -1,7 +1,7 @@
 -- What stays where only some places may change.
 use Rattle.std.proofs.Common.{◌≡◌, ℕ, ◌+◌, ◌≤◌, ◌<◌, Bool, false, List, [], ◌∷◌, ◌++◌, length, get_or, take, drop, sym, ap, ◌∙◌, arith, append_assoc, length-append}
 use Rattle.std.proofs.lemmas.Bool.Decides.{nat_tests}
-use Rattle.std.proofs.lemmas.List.{places, ext_get_or, take_at, drop_at, length-take, length-drop, drop-drop, get_or-take, get_or-drop}
+use Rattle.std.proofs.lemmas.List.{places, ext_get_or, take_at, drop_at, length-take, length-drop, get_or-take, get_or-drop}
 use Rattle.kb_edge.specs.Disk.{within, overlay, MayLeave}
 
 before : (at n p : ℕ) → p < at → within at n p ≡ false
@@ -41,29 +41,9 @@ overlay_behind old at bytes le =
     ap (λ (l : List ℕ). drop at l) (append_assoc (take at old) bytes (drop (at + length bytes) old))
     ∙ drop_at (take at old) (bytes ++ drop (at + length bytes) old) at (omega (arith, length-take at old))
 
-pub overlay_rest : (old : List ℕ) (at : ℕ) (bytes : List ℕ) → at + length bytes ≤ length old → drop (at + length bytes) (overlay old at bytes) ≡ drop (at + length bytes) old
-overlay_rest old at bytes le =
-    drop_at (take at old ++ bytes) (drop (at + length bytes) old) (at + length bytes) (omega (arith, length-take at old, length-append (take at old) bytes))
-
 -- only the range has changed
 pub overlay_kept : (old : List ℕ) (at : ℕ) (bytes : List ℕ) → at + length bytes ≤ length old → MayLeave old (within at (length bytes)) (overlay old at bytes)
 overlay_kept old at bytes le = record { size = length-overlay old at bytes le; kept = λ p clean. grind (arith, nat_tests, places) }
 
--- one piece behind the other is both at once
-pub overlay-overlay : (old : List ℕ) (at : ℕ) (a b : List ℕ) → at + length a + length b ≤ length old → overlay (overlay old at a) (at + length a) b ≡ overlay old at (a ++ b)
-overlay-overlay old at a b le =
-    let first = overlay old at a in
-    let long : length first ≡ length old = length-overlay old at a (omega arith) in
-    let front : take (at + length a) first ≡ take at old ++ a =
-    take_at (take at old ++ a) (drop (at + length a) old) (at + length a) (omega (arith, length-append (take at old) a, length-take at old)) in
-    let back : drop (at + length a + length b) first ≡ drop (at + length (a ++ b)) old =
-    sym (drop-drop (length b) (at + length a) first) ∙ ap (λ (l : List ℕ). drop (length b) l) (overlay_rest old at a (omega arith)) ∙ drop-drop (length b) (at + length a) old
-    ∙ ap (λ (n : ℕ). drop n old) (omega (arith, length-append a b)) in
-    ap (λ (l : List ℕ). l ++ b ++ drop (at + length a + length b) first) front ∙ ap (λ (l : List ℕ). ((take at old ++ a) ++ b) ++ l) back ∙ simp append_assoc
-
 pub get_overlay : (old : List ℕ) (at b : ℕ) → at + 1 ≤ length old → get_or (overlay old at (b ∷ [])) at 0 ≡ b
 get_overlay old at b le = grind (arith, places)
-
--- a read of what was overlay
-pub range_overlay : (old : List ℕ) (at n : ℕ) (bytes : List ℕ) → n ≡ length bytes → at + length bytes ≤ length old → take n (drop at (overlay old at bytes)) ≡ bytes
-range_overlay old at n bytes is le = ap (λ (l : List ℕ). take n l) (overlay_behind old at bytes le) ∙ take_at bytes (drop (at + length bytes) old) n (sym is)

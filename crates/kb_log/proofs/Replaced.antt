@@ -1,5 +1,5 @@
 -- A settled log whose list is replaced.
-use Rattle.std.proofs.Common.{◌≡◌, ◌+◌, ◌%◌, ◌^◌, ◌≤◌, ◌<◌, ℕ, Bool, not, cond, eqb, List, [], ◌∷◌, length, take, ap, sym, subst, ◌∙◌, arith, inl, inr, ◌⊎◌}
+use Rattle.std.proofs.Common.{◌≡◌, ◌+◌, ◌%◌, ◌^◌, ◌≤◌, ◌<◌, ℕ, Bool, not, cond, eqb, List, [], ◌∷◌, length, ap, subst, ◌∙◌, arith, inl, inr, ◌⊎◌}
 use Rattle.kb_edge.specs.Disk.{MayLeave, within, overlay}
 use Rattle.kb_log.specs.Images.{HasEither}
 use Rattle.kb_log.specs.LogList.{used_of, area_size, other_start, is_second}
@@ -11,8 +11,8 @@ use Rattle.kb_log.proofs.Compact.{turn, other_fits, switch_either, first_area, s
 use Rattle.kb_log.proofs.Fill.{length-records_text}
 use Rattle.kb_log.proofs.Images.{Parts, parts_from_list}
 
-module _ (now : List ℕ) (dirty : ℕ → Bool) (area : Area) (was : IsSettled now dirty area) (qs : List (List ℕ)) (fits : used_of qs ≤ length area.text.items)
-    (size other v : ℕ) (size_is : size ≡ length area.text.items) (other_is : other ≡ cond (eqb area.start 16) (16 + size) 16) (v_is : v ≡ cond (eqb area.start 16) 1 0) where
+module _ (now : List ℕ) (dirty : ℕ → Bool) (area : Area) (was : IsSettled now dirty area) (qs : List (List ℕ)) (fits : used_of qs ≤ area.size) (other v : ℕ) (other_is : other ≡ cond (eqb area.start 16) (16 + area.size) 16)
+    (v_is : v ≡ cond (eqb area.start 16) 1 0) where
   low : 16 ≤ length now
   low = omega (arith, was.low)
 
@@ -20,7 +20,7 @@ module _ (now : List ℕ) (dirty : ℕ → Bool) (area : Area) (was : IsSettled 
   turned = turn (is_second now) (area_size (length now)) area.start (omega (arith, was.low)) was.start
 
   pub starts : other ≡ other_start now
-  starts = other_is ∙ ap (λ (a : ℕ). cond (eqb area.start 16) (16 + a) 16) (size_is ∙ was.size) ∙ turned.0
+  starts = other_is ∙ ap (λ (a : ℕ). cond (eqb area.start 16) (16 + a) 16) was.size ∙ turned.0
 
   selects : eqb (v % 2) 1 ≡ not (is_second now)
   selects = ap (λ (n : ℕ). eqb (n % 2) 1) v_is ∙ turned.1
@@ -28,17 +28,16 @@ module _ (now : List ℕ) (dirty : ℕ → Bool) (area : Area) (was : IsSettled 
   parts : Parts (payloads_of area.text.items) now
   parts = parts_from_list (payloads_of area.text.items) now was.list
 
-  area_fits : used_of qs ≤ area_size (length now)
+  pub area_fits : used_of qs ≤ area_size (length now)
   area_fits = omega (arith, fits, was.size)
 
   short : used_of qs < 2 ^ 32
   short = omega (arith, area_fits, was.high)
 
-  pub replaced : (new text : List ℕ) → new ≡ overlay (overlay now other (records_text qs)) 8 (v ∷ []) → take (used_of qs) text ≡ records_text qs → length text ≡ length area.text.items → Settled new qs other (used_of qs) text
-  replaced new text new_is text_is text_size =
+  pub replaced : (new text : List ℕ) → new ≡ overlay (overlay now other (records_text qs)) 8 (v ∷ []) → text ≡ records_text qs → Settled new qs other text
+  replaced new text new_is text_is =
       let at : new ≡ overlay (overlay now (other_start now) (records_text qs)) 8 (v ∷ []) = new_is ∙ ap (λ (a : ℕ). overlay (overlay now a (records_text qs)) 8 (v ∷ [])) starts in
-      subst (λ (a : ℕ). Settled new qs a (used_of qs) text) (sym starts)
-      (settled_compact (payloads_of area.text.items) qs now parts low short area_fits new text v at selects text_is (text_size ∙ was.size))
+      rw (starts, text_is) (settled_compact (payloads_of area.text.items) qs now parts low short area_fits new v at selects)
 
   pub replaced_size : (new : List ℕ) → new ≡ overlay (overlay now other (records_text qs)) 8 (v ∷ []) → length new ≡ length now
   replaced_size new new_is = size_compact now new (records_text qs) other v low (omega (arith, starts, other_fits now low, length-records_text qs, area_fits)) new_is

@@ -98,7 +98,7 @@ impl<D: Disk> Log<D> {
         ensures closed { IsErrOf result AppendFault.Stopped → self.new.is_open ≡ false }
     {
         let need = payload.len() as u32 + 5;
-        let free = self.area.text.len() as u32 - self.area.used;
+        let free = self.area.size - self.area.text.len() as u32;
         if need > free {
             return Err(AppendFault::Full { need, free });
         }
@@ -134,7 +134,7 @@ impl<D: Disk> Log<D> {
         ensures closed { IsErrOf result AppendFault.Stopped → self.new.is_open ≡ false }
     {
         let need = need_of(bytes, ends);
-        let free = self.area.text.len() as u32;
+        let free = self.area.size;
         if need > free {
             return Err(AppendFault::Full { need, free });
         }
@@ -158,7 +158,7 @@ impl<D: Disk> Log<D> {
         ensures value { result ≡ used_of self.now.payloads }
         ensures bound { result ≤ area_size (length (D.content self.now.disk)) }
     {
-        self.area.used
+        self.area.text.len() as u32
     }
 
     /// The bytes of an area.
@@ -167,7 +167,7 @@ impl<D: Disk> Log<D> {
         ensures value { result ≡ area_size (length (D.content self.now.disk)) }
         ensures bound { result < 2 ^ 24 }
     {
-        self.area.text.len() as u32
+        self.area.size
     }
 
     /// Gives the disk back.

@@ -1,5 +1,5 @@
 //! Bytes that are staged where nothing counts, and then one byte that makes them count.
-ghost use Rattle.std.specs.Prelude.{◌≡◌, ◌⊎◌, ◌+◌, ◌-◌, ◌≤◌, ◌<◌, ◌^◌, [], ◌∷◌, false, List, ℕ, length, take, slice_set, OnOk, OnErr};
+ghost use Rattle.std.specs.Prelude.{◌≡◌, ◌⊎◌, ◌+◌, ◌-◌, ◌≤◌, ◌<◌, ◌^◌, [], ◌∷◌, ◌++◌, false, List, ℕ, length, vec_capacity, slice_set, OnOk, OnErr};
 ghost use Rattle.kb_edge.specs.Disk.{within, overlay, MayLeave, FallsBy};
 ghost use Rattle.kb_edge.specs.Causes.{Rose};
 ghost use Rattle.kb_log.specs.LogList.{record_of, used_of};
@@ -45,35 +45,36 @@ pub fn stage_and_switch<D: Disk>(
 pub fn add_record<D: Disk>(
     disk: &mut D,
     start: u32,
-    used: u32,
     text: &mut Vec<u8>,
     payload: &[u8],
 ) -> Result<(), Stopped>
     requires clean { IsClean (D.dirty disk.old) }
-    requires range { start + length text.old.items ≤ length (D.content disk.old) }
-    requires some { 0 < used }
-    requires room { used + 5 + length payload.now ≤ length text.old.items }
+    requires range { start + length text.old.items + length payload.now + 5 ≤ length (D.content disk.old) }
+    requires some { 0 < length text.old.items }
+    requires room { length text.old.items + length payload.now + 5 ≤ vec_capacity text.old }
     requires short { length payload.now < 2 ^ 32 }
     requires small { length (D.content disk.old) < 2 ^ 32 }
 
-    ensures text { OnOk result (text.new.items ≡ slice_set (overlay text.old.items used (record_of payload.now)) (used - 1) 1) }
-    ensures written { OnOk result (D.content disk.new ≡ overlay (overlay (D.content disk.old) (start + used) (record_of payload.now)) (start + used - 1) (1 ∷ [])) }
+    ensures text { OnOk result (text.new.items ≡ slice_set (text.old.items ++ record_of payload.now) (length text.old.items - 1) 1) }
+    ensures room { vec_capacity text.old ≤ vec_capacity text.new }
+    ensures written { OnOk result (D.content disk.new ≡ overlay (overlay (D.content disk.old) (start + length text.old.items) (record_of payload.now)) (start + length text.old.items - 1) (1 ∷ [])) }
     ensures clean { OnOk result (IsClean (D.dirty disk.new)) }
     ensures size { length (D.content disk.new) ≡ length (D.content disk.old) }
     ensures stopped { OnErr result ((image : List ℕ) → MayLeave (D.content disk.new) (D.dirty disk.new) image
-        → MayLeave (D.content disk.old) (within (start + used) (length (record_of payload.now))) image
-        ⊎ MayLeave (overlay (D.content disk.old) (start + used) (record_of payload.now)) (within (start + used - 1) 1) image) }
+        → MayLeave (D.content disk.old) (within (start + length text.old.items) (length (record_of payload.now))) image
+        ⊎ MayLeave (overlay (D.content disk.old) (start + length text.old.items) (record_of payload.now)) (within (start + length text.old.items - 1) 1) image) }
 
     ensures left { FallsBy 4 (D.left disk.old) (D.left disk.new) }
     ensures spent { OnErr result (RanOut 4 (D.left disk.old) (D.left disk.new)) }
     ensures later { D.faults disk.old ≤ D.faults disk.new }
     ensures rose { OnErr result (Rose (D.faults disk.old) (D.faults disk.new)) }
 {
-    let at = used as usize;
-    stage(text, at, payload);
-    let behind = &text[at..at + payload.len() + 5];
-    stage_and_switch(disk, start + used, behind, start + used - 1, 1)?;
-    text[at - 1] = 1;
+    let used = text.len();
+    let at = start + used as u32;
+    stage(text, payload);
+    let behind = &text[used..];
+    stage_and_switch(disk, at, behind, at - 1, 1)?;
+    text[used - 1] = 1;
     Ok(())
 }
 
@@ -87,14 +88,14 @@ pub fn write_area<D: Disk>(
     ends: &[u32],
 ) -> Result<(), Stopped>
     requires clean { IsClean (D.dirty disk.old) }
-    requires range { start + length text.old.items ≤ length (D.content disk.old) }
+    requires range { start + used_of (pieces 0 bytes.now ends.now) ≤ length (D.content disk.old) }
     requires selector { 8 < length (D.content disk.old) }
     requires small { length (D.content disk.old) < 2 ^ 32 }
     requires ends { AreEnds 0 bytes.now ends.now }
-    requires room { used_of (pieces 0 bytes.now ends.now) ≤ length text.old.items }
+    requires room { used_of (pieces 0 bytes.now ends.now) ≤ vec_capacity text.old }
 
-    ensures text_size { length text.new.items ≡ length text.old.items }
-    ensures text { OnOk result (take (used_of (pieces 0 bytes.now ends.now)) text.new.items ≡ records_text (pieces 0 bytes.now ends.now)) }
+    ensures text { OnOk result (text.new.items ≡ records_text (pieces 0 bytes.now ends.now)) }
+    ensures room { vec_capacity text.old ≤ vec_capacity text.new }
     ensures written { OnOk result (D.content disk.new ≡ overlay (overlay (D.content disk.old) start (records_text (pieces 0 bytes.now ends.now))) 8 (selector ∷ [])) }
     ensures clean { OnOk result (IsClean (D.dirty disk.new)) }
     ensures size { length (D.content disk.new) ≡ length (D.content disk.old) }
@@ -107,7 +108,7 @@ pub fn write_area<D: Disk>(
     ensures later { D.faults disk.old ≤ D.faults disk.new }
     ensures rose { OnErr result (Rose (D.faults disk.old) (D.faults disk.new)) }
 {
-    let used = fill(text, bytes, ends);
-    let records = &text[..used];
+    fill(text, bytes, ends);
+    let records = text.as_slice();
     stage_and_switch(disk, start, records, 8, selector)
 }

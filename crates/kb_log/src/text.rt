@@ -1,30 +1,33 @@
 //! The bytes of an area in memory.
-ghost use Rattle.std.specs.Prelude.{◌≡◌, ◌+◌, ◌≤◌, ◌<◌, ◌^◌, ◌==◌, if◌then◌else◌, take, length, IfSome, IfOk, IsSome};
-ghost use Rattle.kb_edge.specs.Disk.{overlay};
+ghost use Rattle.std.specs.Prelude.{◌≡◌, ◌+◌, ◌≤◌, ◌<◌, ◌^◌, ◌++◌, ◌==◌, if◌then◌else◌, length, vec_capacity, IfSome, IfOk, IsSome};
 ghost use Rattle.std.specs.Option.{option_map};
 ghost use Rattle.kb_log.specs.Pieces.{pieces, AreEnds, open_record, records_text};
 ghost use Rattle.kb_log.specs.LogList.{record_of, payload_at, list_of, lists_of, used_of};
 
 use std::alloc::{AllocError, Global};
 
-/// Writes bytes over those that are there.
-pub fn put_at(text: &mut Vec<u8>, at: usize, bytes: &[u8])
-    requires { at + length bytes.now ≤ length text.old.items }
-    ensures { text.new.items ≡ overlay text.old.items at bytes.now }
+// Puts bytes behind those that are there.
+fn put(text: &mut Vec<u8>, bytes: &[u8])
+    requires { length text.old.items + length bytes.now ≤ vec_capacity text.old }
+    ensures items { text.new.items ≡ text.old.items ++ bytes.now }
+    ensures room { vec_capacity text.old ≤ vec_capacity text.new }
 {
-    text[at..at + bytes.len()].copy_from_slice(bytes);
+    let Ok(()) = text.extend_from_slice(bytes) else {
+        unreachable!()
+    };
 }
 
-/// Writes what stands behind a record's gate, and a closed gate.
-pub fn stage(text: &mut Vec<u8>, at: usize, payload: &[u8])
-    requires room { at + length payload.now + 5 ≤ length text.old.items }
+/// Puts what stands behind a record's gate, and a closed gate.
+#[tactic(auto, unfolding(crate::specs::LogList::record_of))]
+pub fn stage(text: &mut Vec<u8>, payload: &[u8])
+    requires room { length text.old.items + length payload.now + 5 ≤ vec_capacity text.old }
     requires short { length payload.now < 2 ^ 32 }
-    ensures { text.new.items ≡ overlay text.old.items at (record_of payload.now) }
+    ensures items { text.new.items ≡ text.old.items ++ record_of payload.now }
+    ensures room { vec_capacity text.old ≤ vec_capacity text.new }
 {
-    let len = payload.len();
-    put_at(text, at, &(len as u32).to_be_bytes());
-    put_at(text, at + 4, payload);
-    put_at(text, at + 4 + len, &[0]);
+    put(text, &(payload.len() as u32).to_be_bytes());
+    put(text, payload);
+    put(text, &[0]);
 }
 
 /// The payload behind a gate, and what follows its record.
@@ -62,38 +65,35 @@ pub fn used_in(text: &[u8]) -> Option<usize>
     None
 }
 
-/// Writes a record with an open gate.
-pub fn put_record(text: &mut Vec<u8>, at: usize, payload: &[u8])
-    requires room { at + length payload.now + 5 ≤ length text.old.items }
+// Puts a record with an open gate.
+#[tactic(auto, unfolding(crate::specs::Pieces::open_record))]
+fn put_record(text: &mut Vec<u8>, payload: &[u8])
+    requires room { length text.old.items + length payload.now + 5 ≤ vec_capacity text.old }
     requires short { length payload.now < 2 ^ 32 }
-    ensures { text.new.items ≡ overlay text.old.items at (open_record payload.now) }
+    ensures items { text.new.items ≡ text.old.items ++ open_record payload.now }
+    ensures room { vec_capacity text.old ≤ vec_capacity text.new }
 {
-    let len = payload.len() as u32;
-    put_at(text, at, &[1]);
-    put_at(text, at + 1, &len.to_be_bytes());
-    put_at(text, at + 5, payload);
+    put(text, &[1]);
+    put(text, &(payload.len() as u32).to_be_bytes());
+    put(text, payload);
 }
 
-/// Writes the records of all pieces, and a closed gate, and says how many bytes that is.
-pub fn fill(text: &mut Vec<u8>, bytes: &[u8], ends: &[u32]) -> usize
+/// Puts the records of all pieces, and a closed gate, in place of what is there.
+pub fn fill(text: &mut Vec<u8>, bytes: &[u8], ends: &[u32])
     requires ends { AreEnds 0 bytes.now ends.now }
-    requires room { used_of (pieces 0 bytes.now ends.now) ≤ length text.old.items }
-    requires short { length text.old.items < 2 ^ 32 }
-    ensures used { result ≡ used_of (pieces 0 bytes.now ends.now) }
-    ensures size { length text.new.items ≡ length text.old.items }
-    ensures text { take result text.new.items ≡ records_text (pieces 0 bytes.now ends.now) }
+    requires room { used_of (pieces 0 bytes.now ends.now) ≤ vec_capacity text.old }
+    requires short { used_of (pieces 0 bytes.now ends.now) < 2 ^ 32 }
+    ensures items { text.new.items ≡ records_text (pieces 0 bytes.now ends.now) }
+    ensures room { vec_capacity text.old ≤ vec_capacity text.new }
 {
-    let mut at = 0;
+    text.clear();
     let mut from = 0;
     for end in ends {
         let to = *end as usize;
-        let payload = &bytes[from..to];
-        put_record(text, at, payload);
-        at += 5 + payload.len();
+        put_record(text, &bytes[from..to]);
         from = to;
     }
-    put_at(text, at, &[0]);
-    at + 1
+    put(text, &[0]);
 }
 
 /// How many bytes the records of all pieces and a closed gate take.
