@@ -3,6 +3,7 @@ ghost use Rattle.std.specs.Prelude.{◌≡◌, [], IfOk};
 ghost use Rattle.kb_folder.specs.Held.{held};
 ghost use Rattle.kb_folder.specs.Lands.{FolderStands};
 ghost use Rattle.kb_rekey.specs.Founding.{any_names};
+ghost use Rattle.kb_rekey.specs.Rekeying.{IsStanding};
 
 use super::scripts::runs;
 use kb_audit::{AuditFault, AuditWhy, audit};
@@ -36,13 +37,22 @@ fn registered<S: Sealer, H: BlockHash>(
     Ok(folder)
 }
 
-// The first one founded it and granted another.
+// The first one founded it.
+fn begun<S: Sealer, H: BlockHash>(alloc: Global, secrets: &Secrets) -> Result<Folder<S, H>, Memory>
+    ensures standing { IfOk result (λ f. IsStanding S.sealed S.signed H.hashed secrets.now (held f)) }
+    ensures registered { IfOk result (λ f. (held f).state.registered ≡ 3) }
+{
+    let mut folder = registered::<S, H>(alloc, secrets)?;
+    found::<S, H>(alloc, &mut folder, secrets, 1, Moment::START)?;
+    Ok(folder)
+}
+
+// It granted another.
 fn granted<S: Sealer, H: BlockHash>(
     alloc: Global,
     secrets: &Secrets,
 ) -> Result<Folder<S, H>, Memory> {
-    let mut folder = registered::<S, H>(alloc, secrets)?;
-    found::<S, H>(alloc, &mut folder, secrets, 1, Moment::START)?;
+    let mut folder = begun::<S, H>(alloc, secrets)?;
     let role = Role::Writer;
     match grant::<S, H>(alloc, &mut folder, secrets, 1, 2, role, Moment::START) {
         Ok(_) => Ok(folder),

@@ -1,16 +1,15 @@
 //! How many blocks a step takes that wrote a file, where the device has the blocks of the tree before it.
-ghost use Rattle.std.specs.Prelude.{◌≡◌, ◌≤◌, ◌+◌, [], true, length, IfOk, IsSome};
-ghost use Rattle.kb_name.specs.Names.{is_name};
-ghost use Rattle.kb_ops.specs.Rows.{IsPlain};
+ghost use Rattle.std.specs.Prelude.{◌≡◌, ◌≤◌, ◌+◌, [], length, IfOk, IsSome};
 ghost use Rattle.kb_ops.specs.Grammar.{IsProper};
 ghost use Rattle.kb_keys.specs.Rings.{key_at};
 
+use crate::tests::apply::{call, mkfile};
 use kb_blocks::{Ptr, Sha256Hash, Store};
 use kb_device::{OldFile, build_step, forget_touched};
 use kb_edge::Memory;
 use kb_keys::KeyRing;
-use kb_name::{Moment, Name, NodeId};
-use kb_ops::{Bytes, Change, Kind, Op, Row};
+use kb_name::{Moment, NodeId};
+use kb_ops::{Bytes, Change, Op, Request, Word};
 use kb_seal::HmacSealer;
 use kb_snap::{Built, Pointers, build, load};
 use kb_tree::Table;
@@ -33,40 +32,22 @@ fn ring(alloc: Global) -> Result<KeyRing, Memory>
     Ok(ring)
 }
 
-fn file(alloc: Global, bytes: &[u8]) -> Result<Row, Fail>
-    requires { length bytes.now ≤ 16777216 }
-    ensures named { IfOk result (λ r. is_name r.name ≡ true) }
-    ensures plain { IfOk result (λ r. IsPlain r.kind r.bytes r.exec) }
-{
-    Ok(Row {
-        id: FILE,
-        parent: NodeId::ROOT,
-        name: Name::new(alloc, b"f")?,
-        kind: Kind::File,
-        bytes: Bytes::new(Vec::from_slice(alloc, bytes)?),
-        exec: false,
-        mtime: Moment::START,
-    })
+// Writes these bytes into `/f` at the offset; the gap before them is zeros.
+fn put(alloc: Global, table: &mut Table, seq: u32, offset: u32, text: &[u8]) -> Result<(), Fail> {
+    let request = Request::Write {
+        path: Word::new(alloc, "/f")?,
+        offset,
+        bytes: Bytes::new(Vec::from_slice(alloc, text)?),
+    };
+    call(alloc, table, seq, &request);
+    Ok(())
 }
 
-// The root with `/f` of these bytes.
-fn tree_of(alloc: Global, bytes: &[u8]) -> Result<Table, Fail>
-    requires { length bytes.now ≤ 16777216 }
-{
+// The root with `/f`, which has zeros up to the offset and ends in these bytes.
+fn tree_of(alloc: Global, offset: u32, text: &[u8]) -> Result<Table, Fail> {
     let mut table = Table::new(alloc)?;
-    let row = file(alloc, bytes)?;
-    table.is_well_formed();
-    table.reserve()?;
-    if table.get(row.id).is_some() {
-        return Ok(table);
-    }
-    if !table.is_dir(row.parent) {
-        return Ok(table);
-    }
-    if table.child(row.parent, &row.name).is_some() {
-        return Ok(table);
-    }
-    table.insert(row);
+    mkfile(alloc, &mut table, 1, "/f")?;
+    put(alloc, &mut table, 2, offset, text)?;
     Ok(table)
 }
 
@@ -95,29 +76,30 @@ fn write(alloc: Global, offset: u32, text: &[u8], size: u32) -> Result<Op, Fail>
     })
 }
 
-// How many blocks the step takes whose tree has these bytes in place of the old ones, and the file's pointer then, if the
-// tree comes back.
-fn step(alloc: Global, old: &[u8], op: &Op, new: &[u8]) -> Result<(usize, Option<Ptr>), Fail>
-    requires old { length old.now ≤ 16777216 }
-    requires new { length new.now ≤ 16777216 }
-    requires proper { IsProper op.now }
+// How many blocks the step takes that leads from the one tree to the other, and the file's pointer then, if the other tree
+// comes back.
+fn step(
+    alloc: Global,
+    before: &Table,
+    size: u32,
+    op: &Op,
+    after: &Table,
+) -> Result<(usize, Option<Ptr>), Fail>
+    requires { IsProper op.now }
 {
-    let before = tree_of(alloc, old)?;
-    let built = first(alloc, &before)?;
+    let built = first(alloc, before)?;
     let mut store = Store::<Sha256Hash>::new(alloc);
     store.put_all(built.blocks.as_slice())?;
     let mut pointers = built.pointers;
     let Some(ptr) = pointers.get(FILE) else {
         return Ok((0, None));
     };
-    let size = old.len() as u32;
-    forget_touched(&mut pointers, &before, &op.change);
-    let after = tree_of(alloc, new)?;
+    forget_touched(&mut pointers, before, &op.change);
     let ring = ring(alloc)?;
     let cache = Some(store);
     let made = build_step::<HmacSealer, Sha256Hash>(
         alloc,
-        &after,
+        after,
         &mut pointers,
         op,
         Some(OldFile { ptr, size }),
@@ -148,12 +130,11 @@ fn step(alloc: Global, old: &[u8], op: &Op, new: &[u8]) -> Result<(usize, Option
 #[test]
 fn one_byte_takes_its_walk(rt: HostRuntime) -> Result<(), Fail> {
     let alloc = rt.alloc();
-    let mut bytes = Vec::new(alloc);
-    bytes.resize(1_000_000, 7)?;
+    let before = tree_of(alloc, 999_999, &[7])?;
+    let mut after = tree_of(alloc, 999_999, &[7])?;
+    put(alloc, &mut after, 3, 0, &[8])?;
     let op = write(alloc, 0, &[8], 1_000_000)?;
-    let mut new = bytes.clone()?;
-    new[0] = 8;
-    let (count, _) = step(alloc, &bytes, &op, &new)?;
+    let (count, _) = step(alloc, &before, 1_000_000, &op, &after)?;
     assert!(rt; count == 4);
     Ok(())
 }
@@ -162,12 +143,11 @@ fn one_byte_takes_its_walk(rt: HostRuntime) -> Result<(), Fail> {
 #[test]
 fn one_byte_more_keeps_the_leaf(rt: HostRuntime) -> Result<(), Fail> {
     let alloc = rt.alloc();
-    let mut bytes = Vec::new(alloc);
-    bytes.resize(4096, 7)?;
+    let before = tree_of(alloc, 4095, &[7])?;
+    let mut after = tree_of(alloc, 4095, &[7])?;
+    put(alloc, &mut after, 3, 4096, &[8])?;
     let op = write(alloc, 4096, &[8], 4097)?;
-    let mut new = bytes.clone()?;
-    new.push(8)?;
-    let (count, _) = step(alloc, &bytes, &op, &new)?;
+    let (count, _) = step(alloc, &before, 4096, &op, &after)?;
     assert!(rt; count == 3);
     Ok(())
 }
@@ -176,13 +156,11 @@ fn one_byte_more_keeps_the_leaf(rt: HostRuntime) -> Result<(), Fail> {
 #[test]
 fn a_cut_keeps_the_leaf(rt: HostRuntime) -> Result<(), Fail> {
     let alloc = rt.alloc();
-    let mut bytes = Vec::new(alloc);
-    bytes.resize(8192, 7)?;
+    let before = tree_of(alloc, 8191, &[7])?;
+    let after = tree_of(alloc, 4095, &[0])?;
     let op = write(alloc, 0, &[], 4096)?;
-    let mut leaf = Vec::new(alloc);
-    leaf.resize(4096, 7)?;
-    let alone = first(alloc, &tree_of(alloc, &leaf)?)?;
-    let (count, ptr) = step(alloc, &bytes, &op, &leaf)?;
+    let alone = first(alloc, &after)?;
+    let (count, ptr) = step(alloc, &before, 8192, &op, &after)?;
     assert!(rt; count == 1);
     assert!(rt; ptr == alone.pointers.get(FILE));
     Ok(())
