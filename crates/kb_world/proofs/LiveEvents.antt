@@ -37,9 +37,9 @@ pick_same most d name p r answers.PickFault.Idle step = step.0
 
 -- what waits goes on to wait where both sessions are open
 drops_on : (a b : Bool) (w v : Waiting) → (b ≡ true → a ≡ true) → w ≡ waiting_if a v → waiting_if b w ≡ waiting_if b v
-drops_on a false w v open is = refl
-drops_on true true w v open is = is
-drops_on false true w v open is = absurd (let no : false ≡ true = open refl in cc)
+drops_on a false w v opens is = refl
+drops_on true true w v opens is = is
+drops_on false true w v opens is = absurd (let no : false ≡ true = opens refl in cc)
 
 open_waits : (b : Bool) (w : Waiting) → b ≡ true → waiting_if b w ≡ w
 open_waits true w e = refl
@@ -83,12 +83,12 @@ module _ (s : State) (moment d : ℕ) (m : Member) (last : Part) (numbered : 1 �
     (waiting : WaitingMeets d s.chain m.name p w) where
   -- what was out is out
   outs_on : (r : Part) (put : Option (Result ℕ PutFault)) → (r.is_open ≡ true → p.is_open ≡ true) → Outs m.waiting p w put → Outs m.waiting r (waiting_if r.is_open w) put
-  outs_on r None open out = tt
-  outs_on r (Some put) open out = (out.0, λ is. open_waits r.is_open w is ∙ out.1 (open is))
+  outs_on r None opens out = tt
+  outs_on r (Some put) opens out = (out.0, λ is. open_waits r.is_open w is ∙ out.1 (opens is))
 
   kept_on : (r : Part) → (r.is_open ≡ true → p.is_open ≡ true) → Kept m.waiting p w → Kept m.waiting r (waiting_if r.is_open w)
-  kept_on r open (inl is) = inl (drops_on p.is_open r.is_open w m.waiting open is)
-  kept_on r open (inr none) = inr none
+  kept_on r opens (inl is) = inl (drops_on p.is_open r.is_open w m.waiting opens is)
+  kept_on r opens (inr none) = inr none
 
   -- nothing waited for a device without a flight
   idle : p.is_open ≡ true → p.flight ≡ None → Kept m.waiting p w → m.waiting ≡ Nothing
@@ -118,7 +118,7 @@ module _ (s : State) (moment d : ℕ) (m : Member) (last : Part) (numbered : 1 �
   calls : (request : Request) (answer : Result Called CallFault) (rest : List Event) (puts : List Put) → Cursor moment d m last p w (Calls request answer ∷ rest) puts → Went s moment d m last (Calls request answer) rest puts
   calls request answer rest puts c =
       let r = c.replays.0 in
-      let open = call_open d p r request moment answer c.replays.1 in
+      let opens = call_open d p r request moment answer c.replays.1 in
       record {
         part = r;
         waits = waiting_if r.is_open w;
@@ -131,13 +131,13 @@ module _ (s : State) (moment d : ℕ) (m : Member) (last : Part) (numbered : 1 �
           step = (refl, record { answer = answer; part = r; step = subst (λ k. CallStep d p request k answer r) (sym now) c.replays.1; reply_is = refl; member = refl });
           state = refl;
         };
-        on = inl (record { put = c.put; replays = c.replays.2; told = c.told; outs = outs_on r c.put open c.outs; kept = kept_on r open c.kept });
+        on = inl (record { put = c.put; replays = c.replays.2; told = c.told; outs = outs_on r c.put opens c.outs; kept = kept_on r opens c.kept });
       }
 
   picks_none : (fault : PickFault) (rest : List Event) (puts : List Put) → Cursor moment d m last p w (Picks (Err fault) ∷ rest) puts → Went s moment d m last (Picks (Err fault)) rest puts
   picks_none fault rest puts c =
       let r = c.replays.0 in
-      let open : r.is_open ≡ true → p.is_open ≡ true = λ is. sym (ap (λ (x : Part). x.is_open) (pick_same m.batch d m.name p r fault c.replays.1)) ∙ is in
+      let opens : r.is_open ≡ true → p.is_open ≡ true = λ is. sym (ap (λ (x : Part). x.is_open) (pick_same m.batch d m.name p r fault c.replays.1)) ∙ is in
       record {
         part = r;
         waits = waiting_if r.is_open w;
@@ -150,7 +150,7 @@ module _ (s : State) (moment d : ℕ) (m : Member) (last : Part) (numbered : 1 �
           step = (refl, inr (record { answer = fault; part = r; step = c.replays.1; reply_is = refl; member = refl }));
           state = refl;
         };
-        on = inl (record { put = c.put; replays = c.replays.2; told = c.told; outs = outs_on r c.put open c.outs; kept = kept_on r open c.kept });
+        on = inl (record { put = c.put; replays = c.replays.2; told = c.told; outs = outs_on r c.put opens c.outs; kept = kept_on r opens c.kept });
       }
 
   -- what follows a pick
