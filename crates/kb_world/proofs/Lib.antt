@@ -33,3 +33,6 @@ pub mod WorldChain
 pub mod Looked
 pub mod BranchTurns
 pub mod BranchWorlds
+pub mod LiveEvents
+pub mod LiveRuns
+pub mod LiveBlocks

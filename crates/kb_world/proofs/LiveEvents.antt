@@ -1,5 +1,5 @@
 -- An event of a block is a part of the machine.
-use Rattle.std.proofs.Common.{◌≡◌, ◌≢◌, ◌⊎◌, ℕ, zero, suc, ◌+◌, ◌-◌, ◌≤◌, Bool, true, false, List, [], ◌∷◌, Option, Some, None, Result, Ok, Err, inl, inr, refl, sym, ap, ◌∙◌, subst, arith}
+use Rattle.std.proofs.Common.{◌≡◌, ◌⊎◌, ℕ, ◌-◌, ◌≤◌, Bool, true, false, List, [], ◌∷◌, Option, Some, None, Result, Ok, Err, inl, inr, refl, sym, ap, ◌∙◌, subst, arith}
 use Rattle.std.specs.Prelude.{slice_get, slice_set}
 use Rattle.kb_ops.specs.declared.requests.Request.{Request}
 use Rattle.kb_ops.specs.declared.requests.Show.{Show}
@@ -12,8 +12,7 @@ use Rattle.kb_device.specs.Answers as answers
 use Rattle.kb_device.specs.Parts.{Part, Flight, CallStep, PickStep, NoteStep}
 use Rattle.kb_device.specs.Waits.{Waiting, Nothing, Asked, Answered, waiting_if, WaitingMeets}
 use Rattle.kb_device.proofs.Parts.{no_waiting}
-use Rattle.kb_world.specs.Statements.{Statement, ByPick, ByNote}
-use Rattle.kb_world.specs.Machine.{Member, State, ActStep, NoteCause}
+use Rattle.kb_world.specs.Machine.{Member, State, ActStep}
 use Rattle.kb_world.specs.Live.{Event, Calls, Looks, Tells, Picks, Notes, Put, Replays, Told, event_act, event_reply}
 use Rattle.kb_world.proofs.Worlds.{same_set}
 

@@ -1,22 +1,22 @@
 -- The histories of a block are parts of the machine, one after another: of each device's history what stands before a put
 -- is done just before it, and the rest at the end.
-use Rattle.std.proofs.Common.{◌≡◌, ◌≢◌, ◌⊎◌, ℕ, zero, suc, ◌+◌, ◌-◌, ◌≤◌, ◌<◌, ◌==◌, Bool, true, false, cond, List, [], ◌∷◌, ◌++◌, length, All, Option, Some, None, inl, inr, refl, sym, ap, ◌∙◌, subst, arith, eqb-true}
+use Rattle.std.proofs.Common.{◌≡◌, ◌≢◌, ◌⊎◌, ℕ, zero, suc, ◌+◌, ◌-◌, ◌≤◌, ◌==◌, Bool, true, false, cond, List, [], ◌∷◌, ◌++◌, length, All, Option, Some, None, inl, inr, refl, sym, ap, ◌∙◌, subst, arith}
 use Rattle.std.specs.Prelude.{slice_get, slice_set}
-use Rattle.std.proofs.lemmas.Bool.Decides.{nat_tests}
+use borrow.Author.Tests.{eqb-false, eqb-true, eq-eqb}
 use Rattle.std.proofs.lemmas.List.{length-set}
 use Rattle.std.proofs.lemmas.List.Elements.{All-head, All-tail}
 use Rattle.kb_snap.specs.Chains.{Chain}
 use Rattle.kb_snap.specs.Puts.{PutStep}
-use Rattle.kb_snap.proofs.Lists.{get_there, member_at}
+use Rattle.kb_snap.proofs.Lists.{member_at}
 use Rattle.kb_device.specs.Parts.{Part}
 use Rattle.kb_device.specs.Waits.{Waiting, Asked, Answered}
 use Rattle.kb_world.specs.Statements.{Act, Reply, On, ByLand}
 use Rattle.kb_world.specs.Statements as statements
 use Rattle.kb_world.specs.Machine.{Member, State, ActStep, landed}
 use Rattle.kb_world.specs.Good.{MemberMeets, IsGood}
-use Rattle.kb_world.specs.Live.{Event, Put, Told, PutsReplay, puts_of, BlockRan, Acts, event_act, event_reply, put_act, ActsKeep}
+use Rattle.kb_world.specs.Live.{Event, Put, PutsReplay, puts_of, Acts, event_act, event_reply, ActsKeep}
 use Rattle.kb_world.proofs.Machine.{act_keeps}
-use Rattle.kb_world.proofs.LiveEvents.{Cursor, at_part, set_to, Went, one_event}
+use Rattle.kb_world.proofs.LiveEvents.{Cursor, at_part, Went, one_event}
 
 -- ---- lists
 
@@ -205,11 +205,15 @@ module _ (moment i : ℕ) (m : Member) (last : Part) where
 
 -- ---- a block
 
-eq_of : (a b : ℕ) → (a == b) ≡ false → a ≢ b
-eq_of a b e same = absurd (let is : (a == b) ≡ true = grind (arith, nat_tests) in let no : true ≡ false = sym is ∙ e in cc)
+-- a number beyond another
+beyond : (n j : ℕ) → n ≤ j → j ≢ n → n + 1 ≤ j
+beyond zero zero le off = absurd (off refl)
+beyond zero (suc j) le off = omega arith
+beyond (suc n) zero le off = absurd (omega (arith, le))
+beyond (suc n) (suc j) le off = (let lt = beyond n j (omega (arith, le)) (λ e. off (ap (λ k. suc k) e)) in omega (arith, lt))
 
 own_puts : (d : ℕ) (f : Put) (fs : List Put) → f.device ≡ d → puts_of d (f ∷ fs) ≡ f ∷ puts_of d fs
-own_puts d f fs e = (let is : (f.device == d) ≡ true = grind (arith, nat_tests) in ap (λ b. cond b (f ∷ puts_of d fs) (puts_of d fs)) is)
+own_puts d f fs e = ap (λ b. cond b (f ∷ puts_of d fs) (puts_of d fs)) (eq-eqb f.device d e)
 
 other_puts : (d : ℕ) (f : Put) (fs : List Put) → (f.device == d) ≡ false → puts_of d (f ∷ fs) ≡ puts_of d fs
 other_puts d f fs is = ap (λ b. cond b (f ∷ puts_of d fs) (puts_of d fs)) is
@@ -293,14 +297,14 @@ module _ (s : State) (parts : ℕ → Part) (end : Chain) where
         let m_is = same_member i j m x same is at in
         subst (λ k. Here landed_in k x fs) (sym same) (subst (λ (y : Member). Here landed_in i y fs) m_is here_now)
     here_at false j x e at h =
-        let off : j ≢ i = λ same. eq_of f.device (j + 1) e (let d = device in omega (arith, same, d)) in
+        let off : j ≢ i = λ same. eqb-false f.device (j + 1) e (let d = device in omega (arith, same, d)) in
         here_on u landed_in j i x landed_at (f ∷ fs) fs off land_aside (other_puts (j + 1) f fs e) h
 
     pub all_here : AllHere u (f ∷ fs) → AllHere landed_in fs
     all_here h j x at = here_at (f.device == j + 1) j x refl at (h j x at)
 
   -- all puts were made
-  pub record Put_all (u : State) : Type 0 where
+  pub record AllPut (u : State) : Type 0 where
     pub state : State
     pub ran : Ran u state
     pub beside : Beside s state
@@ -313,7 +317,7 @@ module _ (s : State) (parts : ℕ → Part) (end : Chain) where
   abbrev pub Unlinked : Type 0
   Unlinked = (i : ℕ) (m : Member) → slice_get s.members i ≡ Some m → m.link ≡ None
 
-  pub run_puts : Unlinked → (fs : List Put) (u : State) → IsGood u → Beside s u → PutsReplay u.chain fs end → All Declared fs → AllHere u fs → Put_all u
+  pub run_puts : Unlinked → (fs : List Put) (u : State) → IsGood u → Beside s u → PutsReplay u.chain fs end → All Declared fs → AllHere u fs → AllPut u
   run_puts links [] u good beside replay declared here = record { state = u; ran = ran_self u good; beside = beside; chain = sym replay; here = here }
   run_puts links (f ∷ fs) u good beside replay declared here =
       let low = All-head Declared f fs declared in
@@ -330,7 +334,7 @@ module _ (s : State) (parts : ℕ → Part) (end : Chain) where
       record { state = more.state; ran = ran_then u v more.state ran more.ran; beside = more.beside; chain = more.chain; here = more.here }
 
   -- all devices came to the end of their histories
-  pub record End_all (u : State) : Type 0 where
+  pub record AllEnd (u : State) : Type 0 where
     pub state : State
     pub ran : Ran u state
     pub beside : Beside s state
@@ -347,17 +351,17 @@ module _ (s : State) (parts : ℕ → Part) (end : Chain) where
     there_at : (b : Bool) (j : ℕ) (x : Member) → (j == n) ≡ b → n ≤ j → slice_get s.members j ≡ Some x → (n + 1 ≤ j → There u j x) → There done.state j x
     there_at true j x e le at h = there_same j x (eqb-true j n e) at
     there_at false j x e le at h =
-        let off : j ≢ n = eq_of j n e in
-        there_on u done.state j n x (at_part m done.part done.waits) off done.aside (h (grind (arith, le, off)))
+        let off : j ≢ n = eqb-false j n e in
+        there_on u done.state j n x (at_part m done.part done.waits) off done.aside (h (beyond n j le off))
 
     here_same : (j : ℕ) (x : Member) → j ≡ n → slice_get s.members j ≡ Some x → Here done.state j x []
     here_same j x same at = (let t = there_same j x same at in record { part = t.part; waits = t.waits; found = t.found; rest = []; cursor = t.cursor })
 
     end_here : (b : Bool) (j : ℕ) (x : Member) → (j == n) ≡ b → slice_get s.members j ≡ Some x → Here u j x [] → Here done.state j x []
     end_here true j x e at h = here_same j x (eqb-true j n e) at
-    end_here false j x e at h = here_on u done.state j n x (at_part m done.part done.waits) [] [] (eq_of j n e) done.aside refl h
+    end_here false j x e at h = here_on u done.state j n x (at_part m done.part done.waits) [] [] (eqb-false j n e) done.aside refl h
 
-  pub run_ends : (n : ℕ) (u : State) → n ≤ length s.members → IsGood u → Beside s u → AllHere u [] → ((j : ℕ) (x : Member) → n ≤ j → slice_get s.members j ≡ Some x → There u j x) → End_all u
+  pub run_ends : (n : ℕ) (u : State) → n ≤ length s.members → IsGood u → Beside s u → AllHere u [] → ((j : ℕ) (x : Member) → n ≤ j → slice_get s.members j ≡ Some x → There u j x) → AllEnd u
   run_ends zero u le good beside here there = record { state = u; ran = ran_self u good; beside = beside; chain = refl; there = λ j x at. there j x (omega arith) at }
   run_ends (suc n) u le good beside here there =
       let at = member_at s.members n (omega (arith, le)) in

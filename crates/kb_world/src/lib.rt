@@ -1,6 +1,7 @@
 //! The folder and its devices, moved by the statements of a script.
 #![tactic(auto)]
 
+mod blocks;
 mod branches;
 mod declared;
 mod listing;
@@ -8,6 +9,7 @@ mod replies;
 mod runs;
 mod world;
 
+pub use blocks::{acts_keep, blocks_are_acts, blocks_are_owned, blocks_keep};
 pub use declared::{Declared, Waiting};
 pub use runs::{
     begun_is_front, branches_meet, equals_show_equal, members_are_declared, none_foreign,
