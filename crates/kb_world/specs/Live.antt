@@ -1,6 +1,6 @@
 -- A block of the plain machine: each device and the folder have a history of what was done at them, and all of it was parts
 -- of the machine.
-use Rattle.std.specs.Prelude.{◌≡◌, ◌⊎◌, ℕ, ◌+◌, ◌-◌, ◌≤◌, ◌==◌, cond, List, [], ◌∷◌, ◌++◌, length, map, All, Option, Some, None, Result, Ok, Err, slice_get}
+use Rattle.std.specs.Prelude.{◌≡◌, ◌⊎◌, ℕ, ◌+◌, ◌-◌, ◌≤◌, ◌==◌, if◌then◌else◌, List, [], ◌∷◌, ◌++◌, length, All, Option, Some, None, Result, Ok, Err, slice_get}
 use Rattle.kb_ops.specs.declared.requests.Request.{Request}
 use Rattle.kb_ops.specs.declared.requests.Show.{Show}
 use Rattle.kb_ops.specs.declared.requests.Shown.{Shown}
@@ -56,7 +56,7 @@ PutsReplay c (f ∷ fs) c' = (mid : Chain) × PutStep c f.ask f.answer mid × Pu
 -- the puts of the device's flushers
 abbrev pub puts_of : ℕ → List Put → List Put
 puts_of d [] = []
-puts_of d (f ∷ fs) = cond (f.device == d) (f ∷ puts_of d fs) (puts_of d fs)
+puts_of d (f ∷ fs) = if f.device == d then f ∷ puts_of d fs else puts_of d fs
 
 -- A device's history, and the puts of its flushers: each put is of the request of a pick that was not refused, in the order
 -- of the picks, and each note is of the answer to the put before, if there is one. The last pick may have no put, and the
