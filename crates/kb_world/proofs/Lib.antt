@@ -34,5 +34,6 @@ pub mod Looked
 pub mod BranchTurns
 pub mod BranchWorlds
 pub mod LiveEvents
+pub mod LiveParts
 pub mod LiveRuns
 pub mod LiveBlocks

@@ -1,6 +1,7 @@
 -- What a block leaves holds as every state of the machine does.
 use Rattle.std.proofs.Common.{◌≡◌, ◌⊎◌, ℕ, zero, suc, ◌+◌, ◌≤◌, Bool, true, false, List, [], ◌∷◌, ◌++◌, length, All, Option, Some, None, inl, inr, refl, sym, ap, ◌∙◌, subst, arith}
 use Rattle.std.specs.Prelude.{slice_get}
+use Rattle.std.proofs.lemmas.List.Elements.{All-nil}
 use Rattle.kb_snap.specs.Chains.{Chain}
 use Rattle.kb_snap.specs.Lawful.{IsLawful}
 use Rattle.kb_snap.specs.Members.{IsDeclared}
@@ -11,10 +12,11 @@ use Rattle.kb_device.proofs.Steps.{closed_waiting}
 use Rattle.kb_world.specs.Statements.{Act, Reply}
 use Rattle.kb_world.specs.Machine.{Member, State, went, most_devices}
 use Rattle.kb_world.specs.Good.{MemberMeets, MembersMeet, names_of, IsGood}
-use Rattle.kb_world.specs.Live.{Event, Put, BlockRan, went_all, after_block, Acts, Drops, BlocksAreActs, BlocksKeep, BlocksOwn}
+use Rattle.kb_world.specs.Live.{Event, Put, BlockRan, went_all, after_block, Acts, puts_in, IsOne, AreHistories, Drops, BlocksAreActs, BlocksKeep, BlocksOwn}
 use Rattle.kb_world.proofs.GoodStates.{good_owned}
+use Rattle.kb_world.proofs.LiveParts.{append_none}
 use Rattle.kb_world.proofs.LiveEvents.{Kept, at_part}
-use Rattle.kb_world.proofs.LiveRuns.{beside_self, acts_then, AllHere, AllPut, run_puts, AllEnd, run_ends}
+use Rattle.kb_world.proofs.LiveRuns.{beside_self, AllHere, There, SoFar, Ending, run_puts, run_ends}
 
 -- ---- lists of members
 
@@ -79,7 +81,7 @@ meets_left d c m p last w (inl same) h = subst (MemberMeets d c) same h
 meets_left d c m p last w (inr same) h = subst (MemberMeets d c) same (record { name = h.name; batch = h.batch; part = h.part; acknowledged = h.acknowledged; waiting = tt })
 
 module _ (s : State) (events : ℕ → List Event) (puts : List Put) (parts : ℕ → Part) (c : Chain) (good : IsGood s) (ran : BlockRan s events puts parts c) where
-  start : AllHere s parts c s puts
+  start : AllHere s events puts parts c [] s puts
   start i m e =
       let one = ran.devices i m e in
       record {
@@ -94,25 +96,34 @@ module _ (s : State) (events : ℕ → List Event) (puts : List Put) (parts : �
           outs = tt;
           kept = inl (waits_self m.part.is_open m.waiting (closed_waiting (i + 1) s.chain m.name m.part m.waiting (good.members i m e).waiting));
         };
+        said = refl;
       }
 
-  all_put : AllPut s parts c s
-  all_put = run_puts s parts c (λ i m e. (ran.devices i m e).carried) puts s good (beside_self s) ran.folder ran.declared start
+  all_put : (so : SoFar s events puts parts c []) × (so.state.chain ≡ c)
+  all_put = run_puts s events puts parts c (λ i m e. (ran.devices i m e).carried) puts
+      (record { xs = []; state = s; acts = refl; good = good; beside = beside_self s; here = start; left = record { folder = refl; only = All-nil (IsOne (length s.members)) } }) ran.folder ran.declared
 
-  all_end : AllEnd s parts c all_put.state
-  all_end = run_ends s parts c (length s.members) all_put.state (omega arith) all_put.ran.good all_put.beside all_put.here (λ j x le at. absurd (let lt = get_there s.members j x at in omega (arith, le, lt)))
+  all_end : Ending s events puts parts c 0
+  all_end = run_ends s events puts parts c (length s.members) (omega arith)
+      (record { so = all_put.0; chain = all_put.1; there = λ j x le at. absurd (let lt = get_there s.members j x at in omega (arith, le, lt)) })
+
+  abbrev last : SoFar s events puts parts c []
+  last = all_end.so
+
+  there_at : (i : ℕ) (m : Member) → slice_get s.members i ≡ Some m → There s events puts parts c last.xs last.state i m
+  there_at i m e = there_at i m (omega arith) e
 
   abbrev last_state : State
-  last_state = all_end.state
+  last_state = last.state
 
   chain_is : last_state.chain ≡ c
-  chain_is = all_end.chain ∙ all_put.chain
+  chain_is = all_end.chain
 
   names_is : names_of last_state.members ≡ names_of (went_all 1 parts s.members)
-  names_is = names_same s.members last_state.members all_end.beside.count (λ i m e. (let there = all_end.there i m e in (at_part m there.part there.waits, there.found, refl))) ∙ sym (names_went 1 parts s.members)
+  names_is = names_same s.members last_state.members last.beside.count (λ i m e. (let there = there_at i m e in (at_part m there.part there.waits, there.found, refl))) ∙ sym (names_went 1 parts s.members)
 
-  left_at : (i : ℕ) (m : Member) (e : slice_get s.members i ≡ Some m) → (let there = all_end.there i m e in (at_part m there.part there.waits ≡ went m (parts (i + 1))) ⊎ (at_part m there.part Nothing ≡ went m (parts (i + 1))))
-  left_at i m e = (let there = all_end.there i m e in left_of m there.part (parts (i + 1)) there.waits there.cursor.replays there.cursor.kept)
+  left_at : (i : ℕ) (m : Member) (e : slice_get s.members i ≡ Some m) → (let there = there_at i m e in (at_part m there.part there.waits ≡ went m (parts (i + 1))) ⊎ (at_part m there.part Nothing ≡ went m (parts (i + 1))))
+  left_at i m e = (let there = there_at i m e in left_of m there.part (parts (i + 1)) there.waits there.cursor.replays there.cursor.kept)
 
   number : (i : ℕ) → i + 1 ≡ 1 + i
   number i = omega arith
@@ -121,8 +132,8 @@ module _ (s : State) (events : ℕ → List Event) (puts : List Put) (parts : �
   members_meet i n e =
       let from = went_from s.members 1 parts i n e in
       let m = from.0 in
-      let there = all_end.there i m from.1 in
-      let meets = subst (λ k. MemberMeets (i + 1) k (at_part m there.part there.waits)) chain_is (all_end.ran.good.members i (at_part m there.part there.waits) there.found) in
+      let there = there_at i m from.1 in
+      let meets = subst (λ k. MemberMeets (i + 1) k (at_part m there.part there.waits)) chain_is (last.good.members i (at_part m there.part there.waits) there.found) in
       let left = meets_left (i + 1) c m there.part (parts (i + 1)) there.waits (left_at i m from.1) meets in
       subst (MemberMeets (i + 1) c) (ap (λ k. went m (parts k)) (number i) ∙ sym from.2) left
 
@@ -131,8 +142,8 @@ module _ (s : State) (events : ℕ → List Event) (puts : List Put) (parts : �
     moment = good.moment;
     rule = good.rule;
     devices = subst (λ n. n ≤ most_devices) (sym (length_went 1 parts s.members)) good.devices;
-    chain = subst IsLawful chain_is all_end.ran.good.chain;
-    declared = subst (λ l. All (IsDeclared l) c) names_is (subst (All (IsDeclared (names_of last_state.members))) chain_is all_end.ran.good.declared);
+    chain = subst IsLawful chain_is last.good.chain;
+    declared = subst (λ l. All (IsDeclared l) c) names_is (subst (All (IsDeclared (names_of last_state.members))) chain_is last.good.declared);
     members = members_meet;
   }
 
@@ -144,18 +155,25 @@ module _ (s : State) (events : ℕ → List Event) (puts : List Put) (parts : �
 
   drops : Drops last_state (after_block s parts c)
   drops = record {
-    state = sym (ap (λ (x : State). record x { members = went_all 1 parts s.members }) all_end.beside.state ∙ ap (λ k. record s { chain = k; members = went_all 1 parts s.members }) chain_is);
-    count = length_went 1 parts s.members ∙ sym all_end.beside.count;
+    state = sym (ap (λ (x : State). record x { members = went_all 1 parts s.members }) last.beside.state ∙ ap (λ k. record s { chain = k; members = went_all 1 parts s.members }) chain_is);
+    count = length_went 1 parts s.members ∙ sym last.beside.count;
     members = λ i n e.
         (let lt = get_there last_state.members i n e in
-        let count = all_end.beside.count in
+        let count = last.beside.count in
         let at = member_at s.members i (omega (arith, lt, count)) in
-        let there = all_end.there i at.0 at.1 in
+        let there = there_at i at.0 at.1 in
         drop_at i at.0 there.part there.waits n (some_same n (at_part at.0 there.part there.waits) (slice_get last_state.members i) e there.found) at.1 (left_at i at.0 at.1));
   }
 
-  pub acts : (xs : List (Act × Reply)) × (u : State) × Acts s xs u × Drops u (after_block s parts c)
-  acts = (all_put.ran.parts ++ all_end.ran.parts, last_state, acts_then s all_put.state last_state all_put.ran.parts all_end.ran.parts all_put.ran.acts all_end.ran.acts, drops)
+  histories : AreHistories (length s.members) events puts last.xs
+  histories = record {
+    devices = λ i lt. (let at = member_at s.members i lt in (there_at i at.0 at.1).said);
+    folder = sym (append_none (puts_in last.xs) [] refl) ∙ last.left.folder;
+    only = last.left.only;
+  }
+
+  pub acts : (xs : List (Act × Reply)) × (u : State) × Acts s xs u × AreHistories (length s.members) events puts xs × Drops u (after_block s parts c)
+  acts = (last.xs, last_state, last.acts, histories, drops)
 
 pub blocks_keep : BlocksKeep
 blocks_keep s events puts parts c good ran = keeps s events puts parts c good ran

@@ -1,6 +1,7 @@
 -- A block of the plain machine: each device and the folder have a history of what was done at them, and all of it was parts
 -- of the machine.
-use Rattle.std.specs.Prelude.{◌≡◌, ◌⊎◌, ℕ, ◌+◌, ◌-◌, ◌≤◌, ◌==◌, if◌then◌else◌, List, [], ◌∷◌, ◌++◌, length, All, Option, Some, None, Result, Ok, Err, slice_get}
+use Rattle.std.specs.Prelude.{◌≡◌, ◌⊎◌, ℕ, ◌+◌, ◌-◌, ◌≤◌, Bool, true, false, ◌==◌, ◌<◌, List, [], ◌∷◌, ◌++◌, length, map, All, Option, Some, None, Result, Ok, Err, slice_get}
+use Rattle.std.specs.List.{filter}
 use Rattle.kb_ops.specs.declared.requests.Request.{Request}
 use Rattle.kb_ops.specs.declared.requests.Show.{Show}
 use Rattle.kb_ops.specs.declared.requests.Shown.{Shown}
@@ -55,8 +56,7 @@ PutsReplay c (f ∷ fs) c' = (mid : Chain) × PutStep c f.ask f.answer mid × Pu
 
 -- the puts of the device's flushers
 abbrev pub puts_of : ℕ → List Put → List Put
-puts_of d [] = []
-puts_of d (f ∷ fs) = if f.device == d then f ∷ puts_of d fs else puts_of d fs
+puts_of d fs = filter (λ (f : Put). f.device == d) fs
 
 -- A device's history, and the puts of its flushers: each put is of the request of a pick that was not refused, in the order
 -- of the picks, and each note is of the answer to the put before, if there is one. The last pick may have no put, and the
@@ -122,6 +122,37 @@ event_reply (Notes put answer) = ByNote answer
 abbrev pub put_act : Put → Act × Reply
 put_act f = (On f.device statements.Land, ByLand (landed f.answer))
 
+abbrev pub event_part : ℕ → Event → Act × Reply
+event_part d e = (event_act d e, event_reply e)
+
+-- it is what this device was asked for in a block
+abbrev pub is_of : ℕ → Act → Bool
+is_of d (On e statements.Land) = false
+is_of d (On e turn) = e == d
+is_of d (See e view) = e == d
+is_of d act = false
+
+-- it is a put
+abbrev pub is_landing : Act → Bool
+is_landing (On e statements.Land) = true
+is_landing act = false
+
+abbrev pub events_in : ℕ → List (Act × Reply) → List (Act × Reply)
+events_in d xs = filter (λ (x : Act × Reply). is_of d x.0) xs
+
+abbrev pub puts_in : List (Act × Reply) → List (Act × Reply)
+puts_in xs = filter (λ (x : Act × Reply). is_landing x.0) xs
+
+-- it is a put, or an event of one of so many devices
+abbrev pub IsOne : ℕ → Act × Reply → Type 0
+IsOne count x = (is_landing x.0 ≡ true) ⊎ ((i : ℕ) × (i < count) × (is_of (i + 1) x.0 ≡ true))
+
+-- Of these parts, those of each device are its history, in order, the puts are the folder's, and there are no others.
+pub record AreHistories (count : ℕ) (events : ℕ → List Event) (puts : List Put) (xs : List (Act × Reply)) : Type 0 where
+  pub devices : (i : ℕ) → i < count → events_in (i + 1) xs ≡ map (event_part (i + 1)) (events (i + 1))
+  pub folder : puts_in xs ≡ map put_act puts
+  pub only : All (IsOne count) xs
+
 -- a state whose devices are those of another, but that what waits may have been dropped
 pub record Drops (u t : State) : Type 0 where
   pub state : t ≡ record u { members = t.members }
@@ -138,7 +169,7 @@ ActsKeep = (s t : State) (xs : List (Act × Reply)) → IsGood s → Acts s xs t
 -- what waits may be dropped.
 abbrev pub BlocksAreActs : Type 0
 BlocksAreActs = (s : State) (events : ℕ → List Event) (puts : List Put) (parts : ℕ → Part) (c : Chain) → IsGood s → BlockRan s events puts parts c
-    → (xs : List (Act × Reply)) × (u : State) × Acts s xs u × Drops u (after_block s parts c)
+    → (xs : List (Act × Reply)) × (u : State) × Acts s xs u × AreHistories (length s.members) events puts xs × Drops u (after_block s parts c)
 
 -- a block keeps what holds of the machine's states
 abbrev pub BlocksKeep : Type 0
