@@ -20,7 +20,7 @@ use Rattle.kb_world.proofs.LiveRuns.{beside_self, AllHere, There, SoFar, Ending,
 
 -- ---- lists of members
 
-length_went : (d : ℕ) (parts : ℕ → Part) (members : List Member) → length (went_all d parts members) ≡ length members
+pub length_went : (d : ℕ) (parts : ℕ → Part) (members : List Member) → length (went_all d parts members) ≡ length members
 length_went d parts [] = refl
 length_went d parts (m ∷ members) = ap (λ n. suc n) (length_went (d + 1) parts members)
 
