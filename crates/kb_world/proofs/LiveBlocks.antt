@@ -10,9 +10,10 @@ use Rattle.kb_device.specs.Parts.{Part}
 use Rattle.kb_device.specs.Waits.{Waiting, Nothing, waiting_if}
 use Rattle.kb_device.proofs.Steps.{closed_waiting}
 use Rattle.kb_world.specs.Statements.{Act, Reply}
-use Rattle.kb_world.specs.Machine.{Member, State, went, most_devices}
+use Rattle.kb_world.specs.Machine.{Member, State, new_state, went, most_devices}
 use Rattle.kb_world.specs.Good.{MemberMeets, MembersMeet, names_of, IsGood}
-use Rattle.kb_world.specs.Live.{Event, Put, BlockRan, went_all, after_block, Acts, puts_in, IsOne, AreHistories, Drops, BlocksAreActs, BlocksKeep, BlocksOwn}
+use Rattle.kb_world.specs.Live.{Event, Put, BlockRan, went_all, after_block, Acts, puts_in, IsOne, AreHistories, Drops, Did, DidStatement, DidBlock, LiveRun, BlocksAreActs, BlocksKeep, BlocksOwn, LiveRunsAreGood}
+use Rattle.kb_world.proofs.Machine.{steps_keep, new_good}
 use Rattle.kb_world.proofs.GoodStates.{good_owned}
 use Rattle.kb_world.proofs.LiveParts.{append_none}
 use Rattle.kb_world.proofs.LiveEvents.{Kept, at_part}
@@ -183,3 +184,13 @@ blocks_are_acts s events puts parts c good ran = acts s events puts parts c good
 
 pub blocks_own : BlocksOwn
 blocks_own s events puts parts c d m good ran is = good_owned (after_block s parts c) d m (keeps s events puts parts c good ran) is
+
+-- ---- runs with blocks
+
+live_keeps : (s : State) (did : List Did) (t : State) → LiveRun s did t → IsGood s → IsGood t
+live_keeps s [] t h good = subst IsGood (sym h) good
+live_keeps s (DidStatement statement replies ∷ more) t h good = live_keeps h.0 more t h.2 (steps_keep s statement replies h.0 h.1 good)
+live_keeps s (DidBlock events puts parts c ∷ more) t h good = live_keeps (after_block s parts c) more t h.1 (keeps s events puts parts c good h.0)
+
+pub live_runs_good : LiveRunsAreGood
+live_runs_good did t h = live_keeps new_state did t h new_good

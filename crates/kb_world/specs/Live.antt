@@ -12,9 +12,9 @@ use Rattle.kb_device.specs.Answers.{Called, CallFault, LookFault, Status, TellFa
 use Rattle.kb_device.specs.Parts.{Part, Flight, CallStep, LookStep, TellStep, PickStep, NoteStep}
 use Rattle.kb_device.specs.Owned.{IsOwned}
 use Rattle.kb_device.specs.Waits.{Nothing}
-use Rattle.kb_world.specs.Statements.{Act, Reply, See, On, ByCall, ByLook, ByStatus, ByPick, ByLand, ByNote}
+use Rattle.kb_world.specs.Statements.{Act, Statement, Reply, See, On, ByCall, ByLook, ByStatus, ByPick, ByLand, ByNote}
 use Rattle.kb_world.specs.Statements as statements
-use Rattle.kb_world.specs.Machine.{Member, State, ActStep, went, landed}
+use Rattle.kb_world.specs.Machine.{Member, State, new_state, ActStep, Steps, went, landed}
 use Rattle.kb_world.specs.Good.{IsGood}
 use Rattle.kb_world.specs.RunLaws.{IsDevice}
 
@@ -159,6 +159,19 @@ pub record Drops (u t : State) : Type 0 where
   pub count : length t.members ≡ length u.members
   pub members : (i : ℕ) (m : Member) → slice_get u.members i ≡ Some m → (slice_get t.members i ≡ Some m) ⊎ (slice_get t.members i ≡ Some (record m { waiting = Nothing }))
 
+-- ---- runs with blocks
+
+-- what was done of a script: a statement with its replies, or a block with its histories and what it left
+pub data Did : Type 0 where
+  DidStatement : Statement → List Reply → Did
+  DidBlock : (ℕ → List Event) → List Put → (ℕ → Part) → Chain → Did
+
+-- all of this was done
+abbrev pub LiveRun : State → List Did → State → Type 0
+LiveRun s [] t = t ≡ s
+LiveRun s (DidStatement statement replies ∷ more) t = (mid : State) × Steps s statement replies mid × LiveRun mid more t
+LiveRun s (DidBlock events puts parts c ∷ more) t = BlockRan s events puts parts c × LiveRun (after_block s parts c) more t
+
 -- ---- laws
 
 -- parts of the machine keep what holds of its states
@@ -179,3 +192,7 @@ BlocksKeep = (s : State) (events : ℕ → List Event) (puts : List Put) (parts 
 abbrev pub BlocksOwn : Type 0
 BlocksOwn = (s : State) (events : ℕ → List Event) (puts : List Put) (parts : ℕ → Part) (c : Chain) (d : ℕ) (m : Member) → IsGood s → BlockRan s events puts parts c
     → IsDevice (after_block s parts c) d m → IsOwned d c m.part
+
+-- every run with blocks comes to a state in which the chain is lawful and each device meets it
+abbrev pub LiveRunsAreGood : Type 0
+LiveRunsAreGood = (did : List Did) (t : State) → LiveRun new_state did t → IsGood t
