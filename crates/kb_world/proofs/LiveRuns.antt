@@ -402,7 +402,7 @@ module _ (s : State) (events : ℕ → List Event) (puts : List Put) (parts : �
     abbrev its_link : by_whom.0.link ≡ None
     its_link = links at_put by_whom.0 by_whom.1
 
-    abbrev pub so_on : SoFar fs
+    abbrev so_on : SoFar fs
     so_on = record {
       xs = landed_by h.xs h.state at_put by_whom.0 its.rest f fs its_link number_is by_whom.1 mid coming put its.said;
       state = landed_in h.xs h.state at_put by_whom.0 its.rest f fs its_link number_is by_whom.1 mid coming put its.said;
