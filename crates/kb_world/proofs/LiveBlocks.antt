@@ -112,7 +112,7 @@ module _ (s : State) (events : ℕ → List Event) (puts : List Put) (parts : �
   last = all_end.so
 
   there_at : (i : ℕ) (m : Member) → slice_get s.members i ≡ Some m → There s events puts parts c last.xs last.state i m
-  there_at i m e = there_at i m (omega arith) e
+  there_at i m e = all_end.there i m (omega arith) e
 
   abbrev last_state : State
   last_state = last.state
