@@ -34,3 +34,7 @@ pub mod Wholeness
 pub mod Looked
 pub mod BranchTurns
 pub mod BranchWorlds
+pub mod LiveEvents
+pub mod LiveParts
+pub mod LiveRuns
+pub mod LiveBlocks

@@ -4,6 +4,7 @@ pub mod Good
 pub mod RunLaws
 pub mod RunReplies
 pub mod RunBlocks
+pub mod Live
 pub mod WorldForms
 pub mod Spoken
 pub mod Told

@@ -2,6 +2,7 @@
 #![tactic(auto)]
 
 mod auditing;
+mod blocks;
 mod branches;
 mod declared;
 mod listing;
@@ -9,6 +10,7 @@ mod replies;
 mod runs;
 mod world;
 
+pub use blocks::{acts_keep, blocks_are_acts, blocks_are_owned, blocks_keep, live_runs_are_good};
 pub use declared::{Declared, Waiting};
 pub use runs::{
     begun_is_front, branches_meet, equals_show_equal, members_are_declared, none_foreign,
