@@ -264,7 +264,7 @@ module _ {D S H : Type 0} {disks : Ghosts D} {sealers : Seals S} {hashes : Hashe
 -- ---- fetches
 
 module _ {D S H : Type 0} {disks : Ghosts D} {sealers : Seals S} {hashes : Hashes H} (seed : List ℕ) (names : Names) (d : ℕ) (f : Held) (c : Chain) (x y : Declared D S H disks sealers hashes) (m : Member) (meets : MemberMeets d c m) (chain : HasChain sealers.sealed sealers.signed hashes.hashed seed names f c)
-    (h : DeclaredStands seed names d f c x m) (named : y.name ≡ x.name) (runs : ForSome y.device.session (Runs y.device.number)) (waiting : y.waiting ≡ x.waiting) (w : inner.Member) (is : IsView y.device w) (waits_ : WaitsOn sealers.sealed hashes.hashed seed h.view w) where
+    (h : DeclaredStands seed names d f c x m) (named : y.name ≡ x.name) (runs : ForSome y.device.session (Runs y.device.number)) (waiting : y.waiting ≡ x.waiting) (linked : y.link ≡ x.link) (w : inner.Member) (is : IsView y.device w) (waits_ : WaitsOn sealers.sealed hashes.hashed seed h.view w) where
   abbrev WF : Waiting → Type 0
   WF u = WaitsFor sealers.sealed sealers.signed hashes.hashed seed names f w y.waiting u
 
@@ -272,7 +272,7 @@ module _ {D S H : Type 0} {disks : Ghosts D} {sealers : Seals S} {hashes : Hashe
   still = subst (λ k. WaitsFor sealers.sealed sealers.signed hashes.hashed seed names f w k m.waiting) (sym waiting) (waits_on sealers.sealed sealers.signed hashes.hashed seed names f h.view w x.waiting m.waiting waits_ h.waits)
 
   on : (n : Member) → DeviceStands sealers.sealed sealers.signed hashes.hashed seed names d f c w n.part → WF n.waiting → n.name ≡ m.name → n.link ≡ m.link → n.batch ≡ m.batch → DeclaredStands seed names d f c y n
-  on n part w_ name link batch = record { name = named ∙ h.name; named = name ∙ h.named; view = w; is = is; runs = runs; part = part; waits = w_; link = link ∙ h.link; batch = batch ∙ h.batch }
+  on n part w_ name link batch = record { name = named ∙ h.name; named = name ∙ h.named; view = w; is = is; runs = runs; part = part; waits = w_; link = link ∙ h.link ∙ ap (λ l. l.armed) (sym linked); batch = batch ∙ h.batch }
 
   answered : (answer : Result ℕ says.FetchFault) → FetchGoes sealers.sealed sealers.signed hashes.hashed seed names f h.view w answer → ((q : Part) → FetchStep d c m.part answer q → q.is_open ≡ m.part.is_open)
       → (n : Member) × Does (FetchStep d c m.part) ByFetch (ByFetch answer) m n × DeclaredStands seed names d f c y n

@@ -2,6 +2,8 @@
 -- the parts so far have replied says which comes next.
 use Rattle.std.specs.Prelude.{◌≡◌, ◌⊎◌, ℕ, ◌+◌, ◌-◌, ◌≤◌, ◌<◌, List, [], ◌∷◌, ◌++◌, length, true, false, Option, Some, None, Result, Ok, Err, slice_get, slice_set, replicate}
 use Rattle.std.specs.Option.{option_map}
+use Rattle.kb_edge.specs.declared.link.Side.{Side}
+use Rattle.kb_edge.specs.declared.link.Side.TheVariants.{Request as AtRequest, Reply as AtReply}
 use Rattle.kb_name.specs.Names.{is_device_name}
 use Rattle.kb_name.specs.Moments.{last_second}
 use Rattle.kb_ops.specs.declared.requests.Shown.{Shown}
@@ -15,7 +17,7 @@ use Rattle.kb_snap.specs.Puts.{Ask, PutStep, LostPut}
 use Rattle.kb_device.specs.Answers.{LookFault, Status, TellFault, Noted, NoteFault, SettleFault}
 use Rattle.kb_device.specs.Answers as answers
 use Rattle.kb_device.specs.Parts.{Merger, Part, Flight, new_part, closed, CallStep, LookStep, TellStep, PickStep, NoteStep, PullStep, FetchStep, SettleStep, OpenStep, BackupStep, RestoreStep, Lowered, armed, powered}
-use Rattle.kb_world.specs.Statements.{View, Side, AtRequest, AtReply, Turn, Act, SetSeed, Declare, DoFound, DoRekey, SetMoment, SetRule, See, On, ListChain, AuditChain, Statement, LandFault, Reply, Silent, Off, ByRekey, ByCall, ByLook, ByStatus, ByPick, ByLand, ByNote, ByPull, ByFetch, BySettle, ByOpen, ByBackup, ByRestore, ByPast, ByReclaim, Lists, Audited}
+use Rattle.kb_world.specs.Statements.{View, Turn, Act, SetSeed, Declare, DoFound, DoRekey, SetMoment, SetRule, See, On, ListChain, AuditChain, Statement, LandFault, Reply, Silent, Off, ByRekey, ByCall, ByLook, ByStatus, ByPick, ByLand, ByNote, ByPull, ByFetch, BySettle, ByOpen, ByBackup, ByRestore, ByPast, ByReclaim, Lists, Audited}
 use Rattle.kb_world.specs.Statements as statements
 use Rattle.kb_snap.specs.PastViews.{PastStep, ReclaimStep}
 use Rattle.kb_device.specs.Waits.{Answered, Asked, Nothing, Waiting, waiting_if}

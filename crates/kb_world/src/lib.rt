@@ -4,6 +4,7 @@
 mod auditing;
 mod blocks;
 mod branches;
+mod carrying;
 mod declared;
 mod listing;
 mod replies;
