@@ -17,7 +17,8 @@ use Rattle.kb_device.specs.Journals.{Journal, queued, taken, branched, taken_ove
 use Rattle.kb_device.specs.Parts.{Merger, Flight, Part, IsOpenAt, closed, ended, plan_at, CallStep, NoteStep, NoteStops, PullStep, SettleStep, OpenStep, merge_ask}
 use Rattle.kb_world.specs.Statements.{Reply, ByCall, ByLand, ByNote, ByPull, BySettle, ByOpen, Act, SetSeed, Declare, DoFound, DoRekey, SetMoment, SetRule, See, ListChain, AuditChain, On}
 use Rattle.kb_world.specs.Statements as statements
-use Rattle.kb_world.specs.Machine.{merger, cut_off, Settling, LinkAfter, Member, went, State, Turns, Does, PicksFlight, PicksNone, NotesAnswer, NotesNone, Landing, Noting, landed, NoteCause, ActStep}
+use Rattle.kb_device.specs.Links.{LinkAfter}
+use Rattle.kb_world.specs.Machine.{merger, cut_off, Settling, Member, went, State, Turns, Does, PicksFlight, PicksNone, NotesAnswer, NotesNone, Landing, Noting, landed, NoteCause, ActStep}
 use Rattle.kb_device.specs.Waits.{Waiting, Nothing, Answered}
 use Rattle.kb_world.specs.Good.{IsGood}
 use Rattle.kb_world.specs.RunLaws.{is_plain}

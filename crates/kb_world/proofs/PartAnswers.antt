@@ -29,7 +29,8 @@ use Rattle.kb_device.specs.Journals.{Journal, last_seq, resumed, returned}
 use Rattle.kb_device.specs.Parts.{Merger, Flight, Part, IsOpenAt, plan_at, shown_at, status_of, CallStep, LookStep, TellStep, PickStep, NoteStep, PullStep, FetchStep, SettleStep, OpenStep, BackupStep, RestoreStep, HasShelved, last_acknowledged, merge_ask, report_at, flight_of, ask_of, closed, armed, powered}
 use Rattle.kb_device.specs.Meets.{PartMeets, PutMeets}
 use Rattle.kb_world.specs.Statements.{Act, SetSeed, Declare, DoFound, DoRekey, SetMoment, SetRule, See, ListChain, AuditChain, On, Reply, Silent, Off, ByRekey, ByCall, ByLook, ByStatus, ByPick, ByLand, ByNote, ByPull, ByFetch, BySettle, ByOpen, ByBackup, ByRestore, ByPast, ByReclaim, Lists, Audited}
-use Rattle.kb_world.specs.Machine.{merger, IsBatch, IsDiskSize, Member, went, State, Turns, Does, Picking, lost_side, cut_off, Landing, Noting, LinkAfter, Settling, landed, IsNotAsked, IsNotAnswered, NoteCause, ActStep}
+use Rattle.kb_device.specs.Links.{LinkAfter, lost_side}
+use Rattle.kb_world.specs.Machine.{merger, IsBatch, IsDiskSize, Member, went, State, Turns, Does, Picking, cut_off, Landing, Noting, Settling, landed, IsNotAsked, IsNotAnswered, NoteCause, ActStep}
 use Rattle.kb_device.specs.Waits.{Waiting, Nothing, Asked, Answered, WaitingMeets}
 use Rattle.kb_snap.specs.Rekeys.{RekeyStep}
 use Rattle.kb_world.specs.Statements as statements

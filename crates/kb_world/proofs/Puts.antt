@@ -36,11 +36,12 @@ use Rattle.kb_device.specs.Stands as inner
 use Rattle.kb_device.specs.Stands.{DeviceStands}
 use Rattle.kb_device.specs.Devices.{IsView, Runs}
 use Rattle.kb_device.specs.Noting.{Sent, AnswerStands}
+use Rattle.kb_device.specs.Links.{Answers, Carries, PutsOver}
+use Rattle.kb_device.specs.declared.linked.CarryFault.TheVariants as carry
 use Rattle.kb_device.specs.Answering.{SentLands, AnswersStay}
 use Rattle.kb_device.specs.declared.answers.PutAnswer.{PutAnswer}
 use Rattle.kb_device.proofs.Picks.{inside_at}
 use Rattle.kb_world.specs.Putting.{lacks_memory}
-use Rattle.kb_world.specs.Carrying.{Makes, Loses}
 use Rattle.kb_world.specs.Standing.{DeclaredStands, WaitsFor}
 use Rattle.kb_world.specs.Turning.{IsLanding, LandSteps, LandTurns}
 use Rattle.kb_world.specs.declared.declared.Declared.{Declared}
@@ -202,7 +203,7 @@ module _ {D S H : Type 0} {disks : Ghosts D} {sealers : Seals S} {hashes : Hashe
     batch = h.batch;
   }
 
-  module _ (f g : Held) (x y : Declared D S H disks sealers hashes) (name : y.name ≡ x.name) (unarmed : y.link.armed ≡ None)
+  module _ (f g : Held) (x y : Declared D S H disks sealers hashes) (name : y.name ≡ x.name)
       (goes : PutsGo sealers.sealed sealers.signed hashes.hashed seed names) (means : PutsMean sealers.sealed sealers.signed hashes.hashed seed names)
       (longer : StandsLonger sealers.sealed sealers.signed hashes.hashed seed names) (request_stays : RequestsStay sealers.sealed sealers.signed hashes.hashed seed names) (answers_stay : AnswersStay sealers.sealed sealers.signed hashes.hashed seed names)
       (d : ℕ) (c : Chain) (m : Member) (lawful : IsLawful c) (meets : MemberMeets d c m) (has : HasChain sealers.sealed sealers.signed hashes.hashed seed names f c) (h : DeclaredStands seed names d f c x m)
@@ -225,18 +226,18 @@ module _ {D S H : Type 0} {disks : Ghosts D} {sealers : Seals S} {hashes : Hashe
       grows : Grows f g
       has : HasChain sealers.sealed sealers.signed hashes.hashed seed names g chain
 
-    gone : (put : Result ℕ PutRefusal) → Makes sealers.signed hashes.hashed f g request put → Gone put
+    gone : (put : Result ℕ PutRefusal) → Answers sealers.signed hashes.hashed f request g put → Gone put
     gone put made =
         let extends : Extends c ask = λ next room. land_follows d c m.name m.part ask meets.part asks next room in
-        let told = means f g c request ask put has asked.2 made.puts made.some in
-        let to = goes f g request put told.0 made.puts told.1 c ask lawful extends has asked.2 in
+        let told = means f g c request ask put has asked.2 made.0 made.1 in
+        let to = goes f g request put told.0 made.0 told.1 c ask lawful extends has asked.2 in
         record { answer = told.0; means = told.1; chain = to.0; step = to.1; grows = to.2; has = to.3 }
 
     -- the request is put, and its answer comes back
-    pub puts_request : SentLands sealers.sealed sealers.signed hashes.hashed seed names → (answer : PutAnswer) → x.link.armed ≡ None → Makes sealers.signed hashes.hashed f g request answer.number → answer.hash ≡ sha256 request.revision
+    pub puts_request : SentLands sealers.sealed sealers.signed hashes.hashed seed names → (answer : PutAnswer) → Answers sealers.signed hashes.hashed f request g answer.number → Carries (Some x.link.armed) (Some y.link.armed) → answer.hash ≡ sha256 request.revision
         → y.device ≡ x.device → y.waiting ≡ kept.Answer answer
         → (n : Member) × (c' : Chain) × LandSteps (landing_of answer.number) d c m n c' × HasChain sealers.sealed sealers.signed hashes.hashed seed names g c' × Grows f g × DeclaredStands seed names d g c' y n
-    puts_request lands answer carried made hash device waiting =
+    puts_request lands answer made carries hash device waiting =
         let put = answer.number in
         let to = gone put made in
         let c' = to.chain in
@@ -247,10 +248,10 @@ module _ {D S H : Type 0} {disks : Ghosts D} {sealers : Seals S} {hashes : Hashe
         λ s a k is flies ok.
         taken_number c c' ask put to.answer k to.means to.step ok ∙ ap (λ (q : Ask). q.number) asks.ask_is
         ∙ ap (λ (q : Flight). q.number) (flight_once m.part asks.flight a.flight asks.flight_is (flight_at sealers.sealed sealers.signed hashes.hashed seed names d f c h.view m.part s a h.part is flies)) in
-        let stands = lands d f g c h.view m.part request answer has h.part asked.3 made.puts hash number in (
+        let stands = lands d f g c h.view m.part request answer has h.part asked.3 made.0 hash number in (
           n,
           c',
-          land_shape put d c m n c' made.some (landed to.answer, is_landing put to.answer to.means, inl (inl (record { ask = ask; waits = asked.1; carried = h.link ∙ carried; answer = to.answer; step = to.step; reply_is = refl; member = refl }))),
+          land_shape put d c m n c' made.1 (landed to.answer, is_landing put to.answer to.means, inl (inl (record { ask = ask; waits = asked.1; carried = h.link ∙ carries.0; answer = to.answer; step = to.step; reply_is = refl; member = refl }))),
           to.has,
           to.grows,
           record {
@@ -261,7 +262,7 @@ module _ {D S H : Type 0} {disks : Ghosts D} {sealers : Seals S} {hashes : Hashe
             runs = subst (λ e. ForSome e.session (Runs e.number)) (sym device) h.runs;
             part = part;
             waits = subst (λ k. WaitsFor sealers.sealed sealers.signed hashes.hashed seed names g h.view k (Answered to.answer)) (sym waiting) (to.means, stands);
-            link = h.link ∙ carried ∙ sym unarmed;
+            link = h.link ∙ carries.0 ∙ sym carries.1;
             batch = h.batch;
           },
         )
@@ -274,8 +275,8 @@ module _ {D S H : Type 0} {disks : Ghosts D} {sealers : Seals S} {hashes : Hashe
           let to = goes f c m.part meets.part has h.part in
           subst (λ q. DeviceStands sealers.sealed sealers.signed hashes.hashed seed names d f c w q) to.1 to.2
 
-      gone_off : (c' : Chain) → DeviceStands sealers.sealed sealers.signed hashes.hashed seed names d g c' w (closed m.part) → DeclaredStands seed names d g c' y (cut_off m)
-      gone_off c' part = record {
+      gone_off : (c' : Chain) → y.link.armed ≡ None → DeviceStands sealers.sealed sealers.signed hashes.hashed seed names d g c' w (closed m.part) → DeclaredStands seed names d g c' y (cut_off m)
+      gone_off c' unarmed part = record {
         name = name ∙ h.name;
         named = h.named;
         view = w;
@@ -287,26 +288,26 @@ module _ {D S H : Type 0} {disks : Ghosts D} {sealers : Seals S} {hashes : Hashe
         batch = h.batch;
       }
 
-      pub loses_request : Loses sealers.signed hashes.hashed x.link.armed f g request
+      pub loses_request : PutsOver sealers.signed hashes.hashed f request g (Some x.link.armed) (Some y.link.armed) (Err carry.Lost)
           → (n : Member) × (c' : Chain) × LandSteps (Err land.LinkFault) d c m n c' × HasChain sealers.sealed sealers.signed hashes.hashed seed names g c' × Grows f g × DeclaredStands seed names d g c' y n
       loses_request (inl lost) = (
         cut_off m,
         c,
-        (Err (statements.LinkFault None), (None, refl), inl (inr (record { ask = ask; waits = asked.1; lost = None; side = h.link ∙ lost.0; step = refl; reply_is = refl; member = refl }))),
-        subst (λ (e : Held). HasChain sealers.sealed sealers.signed hashes.hashed seed names e c) (sym lost.1) has,
-        inl lost.1,
-        gone_off c (subst (λ (e : Held). DeviceStands sealers.sealed sealers.signed hashes.hashed seed names d e c w (closed m.part)) (sym lost.1) left),
+        (Err (statements.LinkFault None), (None, refl), inl (inr (record { ask = ask; waits = asked.1; lost = None; side = h.link ∙ lost.1.0; step = refl; reply_is = refl; member = refl }))),
+        subst (λ (e : Held). HasChain sealers.sealed sealers.signed hashes.hashed seed names e c) (sym lost.0) has,
+        inl lost.0,
+        gone_off c lost.1.1 (subst (λ (e : Held). DeviceStands sealers.sealed sealers.signed hashes.hashed seed names d e c w (closed m.part)) (sym lost.0) left),
       )
       loses_request (inr lost) =
-          let to = gone lost.1 lost.2 in
+          let to = gone lost.0 lost.1 in
           let c' = to.chain in
           let grew = put_grew c ask to.answer c' to.step in (
             cut_off m,
             c',
-            (Err (statements.LinkFault (Some to.answer)), (Some to.answer, refl), inl (inr (record { ask = ask; waits = asked.1; lost = Some to.answer; side = h.link ∙ lost.0; step = to.step; reply_is = refl; member = refl }))),
+            (Err (statements.LinkFault (Some to.answer)), (Some to.answer, refl), inl (inr (record { ask = ask; waits = asked.1; lost = Some to.answer; side = h.link ∙ lost.2.0; step = to.step; reply_is = refl; member = refl }))),
             to.has,
             to.grows,
-            gone_off c' (device_longer sealers.sealed sealers.signed hashes.hashed seed names f g c c' grew to.grows has to.has longer request_stays answers_stay d w (closed m.part) (closed_part d c m.part meets.part) left),
+            gone_off c' lost.2.1 (device_longer sealers.sealed sealers.signed hashes.hashed seed names f g c c' grew to.grows has to.has longer request_stays answers_stay d w (closed m.part) (closed_part d c m.part meets.part) left),
           )
 
   -- no request waits

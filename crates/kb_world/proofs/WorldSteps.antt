@@ -15,7 +15,8 @@ use Rattle.kb_device.specs.Parts.{Merger, Flight, Part, closed, CallStep, PickSt
 use Rattle.kb_device.specs.Meets.{PartMeets, PutMeets}
 use Rattle.kb_world.specs.Statements.{ByCall, ByPick, ByLand, ByNote, BySettle, ByOpen, On}
 use Rattle.kb_world.specs.Statements as statements
-use Rattle.kb_world.specs.Machine.{merger, went, landed, cut_off, LinkAfter, Member, State, ActStep}
+use Rattle.kb_device.specs.Links.{LinkAfter}
+use Rattle.kb_world.specs.Machine.{merger, went, landed, cut_off, Member, State, ActStep}
 use Rattle.kb_device.specs.Waits.{Waiting, Nothing, Asked, Answered, waiting_if, WaitingMeets}
 use Rattle.kb_world.specs.Good.{IsGood}
 use Rattle.kb_world.specs.RunLaws.{IsDevice}

@@ -31,7 +31,8 @@ use Rattle.kb_device.specs.declared.settled.SettleFault.TheVariants as settle
 use Rattle.kb_lines.specs.declared.lines.Line.{Line}
 use Rattle.kb_lines.specs.declared.lines.Line.TheVariants as line
 use Rattle.kb_world.specs.Statements.{ByFetch}
-use Rattle.kb_world.specs.Machine.{Member, Does, LinkAfter, went}
+use Rattle.kb_device.specs.Links.{LinkAfter}
+use Rattle.kb_world.specs.Machine.{Member, Does, went}
 use Rattle.kb_world.specs.Good.{MemberMeets}
 use Rattle.kb_world.specs.Standing.{DeclaredStands}
 use Rattle.kb_world.specs.declared.declared.Declared.{Declared}

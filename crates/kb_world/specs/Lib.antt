@@ -12,7 +12,6 @@ pub mod Printed
 pub mod Standing
 pub mod Turning
 pub mod Putting
-pub mod Carrying
 pub mod Listing
 pub mod Doing
 pub mod Branching

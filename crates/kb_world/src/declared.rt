@@ -4,13 +4,12 @@ ghost use Rattle.kb_device.specs.Calling as calling;
 ghost use Rattle.kb_device.specs.Pulling as pulling;
 ghost use Rattle.kb_world.specs.Turning.{IsNoteless};
 
-use crate::carrying::{Carried, carry};
 use crate::replies::LandFault;
 use kb_blocks::BlockHash;
-use kb_chain::{FolderRequest, PutRefusal};
+use kb_chain::{FolderRequest, PutRefusal, hash_of};
 use kb_device::{
-    CallFault, Called, Closed, Device, NoteFault, Noted, OpenFault, PickFault, PullFault,
-    PutAnswer, Status, landing_law, longer_law,
+    CallFault, Called, CarryFault, Closed, Device, NoteFault, Noted, OpenFault, PickFault,
+    PullFault, PutAnswer, Status, landing_law, longer_law, put_over,
 };
 use kb_edge::{CrashDisk, Disk, MemLink, Pick, Side};
 use kb_folder::{Folder, machine_law};
@@ -111,18 +110,18 @@ impl<D: Disk, S: Sealer, H: BlockHash> Declared<D, S, H> {
         let Waiting::Request(request) = &self.waiting else {
             return Err(LandFault::NoFlight);
         };
-        let answer = match carry(&mut self.link, folder, request) {
-            Carried::Answered(answer) => answer,
-            Carried::Lacked => return Err(LandFault::ByFolder(PutRefusal::Memory)),
-            Carried::Lost => {
+        let put = match put_over(&mut self.link, folder, request) {
+            Ok(put) => put,
+            Err(CarryFault::Memory) => return Err(LandFault::ByFolder(PutRefusal::Memory)),
+            Err(CarryFault::Lost) => {
                 self.device.leave();
                 self.waiting = Waiting::Nothing;
                 return Err(LandFault::LinkFault);
             }
         };
-        let number = answer.number;
-        self.waiting = Waiting::Answer(answer);
-        match number {
+        let hash = hash_of(request.revision.as_slice());
+        self.waiting = Waiting::Answer(PutAnswer { number: put, hash });
+        match put {
             Ok(number) => Ok(number),
             Err(refusal) => Err(LandFault::ByFolder(refusal)),
         }

@@ -4,7 +4,6 @@
 mod auditing;
 mod blocks;
 mod branches;
-mod carrying;
 mod declared;
 mod listing;
 mod replies;
