@@ -105,8 +105,8 @@ impl<D: Disk, S: Sealer, H: BlockHash> Declared<D, S, H> {
         }
     }
 
-    /// Merges the branch into what was fetched, and puts the merge over the device's link. How many rows were looked at stands in `looked` once
-    /// there is a merge, whatever becomes of the put.
+    /// Merges the branch into what was fetched, and puts the merge over the device's link. How many rows were looked at
+    /// stands in `looked` once there is a merge, whatever becomes of the put.
     pub fn settle(
         &mut self,
         alloc: Global,
