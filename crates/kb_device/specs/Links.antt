@@ -30,7 +30,7 @@ Loses side old new = WhereTold old new (λ was is. (was ≡ Some side) × (is �
 
 -- the folder gave this answer, and didn't lack memory
 abbrev pub Answers : (List ℕ → List ℕ → List ℕ) → (List ℕ → List ℕ) → Held → FolderRequest → Held → Result ℕ PutRefusal → Type 0
-Answers signed hashed f request g answer = Puts signed hashed f request g answer × (let lacks : Result ℕ PutRefusal = Err why.Memory in answer ≢ lacks)
+Answers signed hashed f request g answer = Puts signed hashed f request g answer × (answer ≢ Err why.Memory)
 
 -- A put over a link. A folder that lacked memory did nothing, and nothing was lost; where the request was lost nothing was
 -- put; and a reply that was lost hides an answer of the folder.

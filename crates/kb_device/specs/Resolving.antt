@@ -39,12 +39,12 @@ module _ (sealed signed : List ℕ → List ℕ → List ℕ) (hashed : List ℕ
     pub merges : (s : Inside) (x : Plan) → old.inside ≡ Some s → s.plan ≡ Some x → IsMergeOf old.number old.name moment s x tree
 
   -- what is armed of the link, where it tells that, before and after
-  module _ (g : Held) (new : Member) (armed left : Option (Option Side)) where
+  module _ (g : Held) (new : Member) (armed armed' : Option (Option Side)) where
     -- the machine's settle that tells this
     abbrev pub SettleGoes : (Result (ℕ × Report) says.SettleFault → Type 0) → Type 0
     SettleGoes Tells = (c : Chain) (p : Part) → MaySettle c p
         → (answer : Result (ℕ × Report) says.SettleFault) × (c' : Chain) × (q : Part) × Tells answer × SettleStep old.number (merger_of old moment) c p answer c' q × Grows f g × HasChain sealed signed hashed seed names g c'
-        × DeviceStands sealed signed hashed seed names old.number g c' new q × WhereTold armed left (λ was is. LinkAfter was answer is)
+        × DeviceStands sealed signed hashed seed names old.number g c' new q × WhereTold armed armed' (λ was is. LinkAfter was answer is)
 
     -- the machine's answer: the number, with the report of the plan's merge, and with a lost reply what the folder answered
     abbrev pub Tells : Result ℕ SettleFault → Result (ℕ × Report) says.SettleFault → Type 0
@@ -59,7 +59,7 @@ module _ (sealed signed : List ℕ → List ℕ → List ℕ) (hashed : List ℕ
     -- What a settle that gives this answer is in the machine. Want of memory changes neither the folder, nor what the device stands
     -- for, nor the side that is armed.
     abbrev pub SettleAnswers : Result ℕ SettleFault → Type 0
-    SettleAnswers (Err fault.Memory) = (g ≡ f) × ((c : Chain) (p : Part) → DeviceStands sealed signed hashed seed names old.number f c old p → DeviceStands sealed signed hashed seed names old.number f c new p) × Spares armed left
+    SettleAnswers (Err fault.Memory) = (g ≡ f) × ((c : Chain) (p : Part) → DeviceStands sealed signed hashed seed names old.number f c old p → DeviceStands sealed signed hashed seed names old.number f c new p) × Spares armed armed'
     SettleAnswers r = SettleGoes (Tells r)
 
     -- where the device's session owned its queue, it still does

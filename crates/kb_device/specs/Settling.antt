@@ -141,13 +141,13 @@ module _ (sealed signed : List ℕ → List ℕ → List ℕ) (hashed : List ℕ
 
   -- What a settle does that gives this answer, also to the side of its link that is armed, where the link tells that.
   abbrev pub SettleDoes : Option (Option Side) → Option (Option Side) → Result ℕ SettleFault → Type 0
-  SettleDoes armed left (Ok n) = Settles n × Carries armed left
-  SettleDoes armed left (Err fault.Closed) = ⊥
-  SettleDoes armed left (Err fault.NoPlan) = Stays × (s.plan ≡ None) × (left ≡ armed)
-  SettleDoes armed left (Err fault.Memory) = (Stays ⊎ Fills) × Spares armed left
-  SettleDoes armed left (Err fault.LinkFault) = (RequestLost × Loses Request armed left) ⊎ (ReplyLost × Loses Reply armed left)
-  SettleDoes armed left (Err (fault.ByPut refusal)) = Drops refusal × Carries armed left
-  SettleDoes armed left (Err fault.Stopped) = SettleBreaks × Carries armed left
+  SettleDoes armed armed' (Ok n) = Settles n × Carries armed armed'
+  SettleDoes armed armed' (Err fault.Closed) = ⊥
+  SettleDoes armed armed' (Err fault.NoPlan) = Stays × (s.plan ≡ None) × (armed' ≡ armed)
+  SettleDoes armed armed' (Err fault.Memory) = (Stays ⊎ Fills) × Spares armed armed'
+  SettleDoes armed armed' (Err fault.LinkFault) = (RequestLost × Loses Request armed armed') ⊎ (ReplyLost × Loses Reply armed armed')
+  SettleDoes armed armed' (Err (fault.ByPut refusal)) = Drops refusal × Carries armed armed'
+  SettleDoes armed armed' (Err fault.Stopped) = SettleBreaks × Carries armed armed'
 
 -- this holds of the settle, unless it ends the session
 abbrev pub UnlessEnded : Result ℕ SettleFault → Type 0 → Type 0

@@ -38,10 +38,7 @@ use std::alloc::Global;
 pub fn ends_session(settled: &Result<u32, SettleFault>) -> bool
     ensures { result ≡ ends settled.now }
 {
-    matches!(
-        settled,
-        Err(SettleFault::LinkFault | SettleFault::Stopped)
-    )
+    matches!(settled, Err(SettleFault::LinkFault | SettleFault::Stopped))
 }
 
 fn copies(alloc: Global, queue: &[Op]) -> Result<Vec<Op>, Memory>
