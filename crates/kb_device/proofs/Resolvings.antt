@@ -1,6 +1,6 @@
 -- What a settle over a link does is what the machine's settle does.
 use Rattle.std.proofs.Common.{◌≡◌, ◌≢◌, ℕ, suc, ◌+◌, ◌<◌, ◌≤◌, true, false, List, [], ◌∷◌, ◌++◌, length, drop, take, Option, None, Some, Result, Ok, Err, inl, inr, refl, sym, ap, subst, ◌∙◌, arith, length-append}
-use Rattle.std.specs.Prelude.{IsSomeAnd, Contains}
+use Rattle.std.specs.Prelude.{◌⊎◌, IsSomeAnd, Contains}
 use Rattle.std.specs.Option.{option_map}
 use Rattle.std.specs.FinMap.{get}
 use Rattle.std.proofs.lemmas.List.{take_all}
@@ -58,6 +58,7 @@ use Rattle.kb_device.specs.declared.settled.SettleFault.{SettleFault}
 use Rattle.kb_device.specs.declared.settled.SettleFault.TheVariants as fault
 use Rattle.kb_device.proofs.Hashes.{same_hash, last_hash}
 use Rattle.kb_device.proofs.Ids.{chain_ids, ids_more}
+use Rattle.kb_device.proofs.Links.{told_same}
 use Rattle.kb_device.proofs.Longer.{chain_length, hash_longer, closed_longer}
 use Rattle.kb_device.proofs.MergedPointers.{left_hold}
 use Rattle.kb_device.proofs.Notings.{stands_with, stands_closed}
@@ -100,11 +101,6 @@ refusal_of why.BadSignature answer means = absurd means
 refusal_of (why.SeqGap expected) answer means = absurd means
 refusal_of why.BadFit answer means = absurd means
 refusal_of why.Memory answer means = absurd means
-
--- a link that is the same tells the same
-told_same : (armed armed' : Option (Option Side)) → armed' ≡ armed → WhereTold armed armed' (λ was is. is ≡ was)
-told_same None armed' same = tt
-told_same (Some was) armed' same = subst (λ o. WhereTold (Some was) o (λ a b. b ≡ a)) (sym same) refl
 
 drop_all : {A : Type 0} (xs : List A) → drop (length xs) xs ≡ []
 drop_all [] = refl

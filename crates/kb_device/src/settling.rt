@@ -203,17 +203,14 @@ impl<D: Disk, H: BlockHash> Session<D, H> {
             }
         }
         let hash = hash_of(request.revision.as_slice());
-        let answer = match put_over(link, folder, &request) {
-            Ok(answer) => answer,
+        match put_over(link, folder, &request) {
+            Ok(Ok(_)) => {}
+            Ok(Err(refusal)) => return Err(SettleFault::ByPut(refusal)),
             Err(CarryFault::Memory) => {
                 self.plan = Some(goal);
                 return Err(SettleFault::Memory);
             }
             Err(CarryFault::Lost) => return Err(SettleFault::LinkFault),
-        };
-        match answer {
-            Ok(_) => {}
-            Err(refusal) => return Err(SettleFault::ByPut(refusal)),
         }
         let role = folder.policy().role(d);
         match self.resolve(goal, table, shown, pointers, hash, role) {
