@@ -11,7 +11,7 @@ use Rattle.kb_device.specs.Caches.{Cache, Takes}
 use Rattle.kb_device.specs.Inside.{Plan, Inside}
 use Rattle.kb_device.specs.Stands.{Platter}
 use Rattle.kb_device.specs.Settling.{IsAsked, Asks, RequestLost, ReplyLost}
-use Rattle.kb_device.specs.Links.{WhereTold, Spares, Loses, PutsOver}
+use Rattle.kb_device.specs.Links.{WhereTold, Spares, Loses, Answers, PutsOver}
 use Rattle.kb_device.specs.declared.linked.CarryFault.{CarryFault}
 use Rattle.kb_device.specs.declared.linked.CarryFault.TheVariants as carry
 use Rattle.kb_device.proofs.Settlings.{asks_by}
@@ -23,6 +23,10 @@ told_same (Some was) armed' same = subst (λ o. WhereTold (Some was) o (λ a b. 
 
 pub spares : (armed : Option (Option Side)) → Spares armed armed
 spares armed = told_same armed armed refl
+
+-- an answer of the folder, matched
+pub answers_as : (signed : List ℕ → List ℕ → List ℕ) (hashed : List ℕ → List ℕ) (f g : Held) (request : FolderRequest) (a b : Result ℕ PutRefusal) → a ≡ b → Answers signed hashed f request g a → Answers signed hashed f request g b
+answers_as signed hashed f g request a b same put = subst (λ x. Answers signed hashed f request g x) same put
 
 -- a folder that lacked memory did nothing
 pub memory_over : (signed : List ℕ → List ℕ → List ℕ) (hashed : List ℕ → List ℕ) (f g : Held) (request : FolderRequest) (armed armed' : Option (Option Side)) (fault : CarryFault) → fault ≡ carry.Memory → PutsOver signed hashed f request g armed armed' (Err fault) → (g ≡ f) × Spares armed armed'
