@@ -30,6 +30,14 @@ fn lacks_memory(answer: &Result<u32, PutRefusal>) -> bool
     matches!(answer, Err(PutRefusal::Memory))
 }
 
+/// Whether the link lost something, and the folder didn't lack memory.
+pub fn has_lost(fault: CarryFault) -> bool
+    ensures lost { result ≡ true → fault ≡ carry.Lost }
+    ensures other { result ≡ false → fault ≡ carry.Memory }
+{
+    matches!(fault, CarryFault::Lost)
+}
+
 /// Puts a request over a link: the folder answers where the request isn't lost, and its answer comes back where the reply
 /// isn't.
 pub fn put_over<S: Sealer, H: BlockHash, K: Link>(

@@ -15,7 +15,7 @@ ghost use Rattle.kb_device.specs.declared.settled.SettleFault.TheVariants as sto
 
 use crate::caching::keep_blocks;
 use crate::head::Goal;
-use crate::linked::{CarryFault, put_over};
+use crate::linked::{has_lost, put_over};
 use crate::merge_requests::merge_request;
 use crate::merged_pointers::left_by_merge;
 use crate::session::Session;
@@ -203,14 +203,19 @@ impl<D: Disk, H: BlockHash> Session<D, H> {
             }
         }
         let hash = hash_of(request.revision.as_slice());
-        match put_over(link, folder, &request) {
-            Ok(Ok(_)) => {}
-            Ok(Err(refusal)) => return Err(SettleFault::ByPut(refusal)),
-            Err(CarryFault::Memory) => {
+        let answer = match put_over(link, folder, &request) {
+            Ok(answer) => answer,
+            Err(fault) => {
+                if has_lost(fault) {
+                    return Err(SettleFault::LinkFault);
+                }
                 self.plan = Some(goal);
                 return Err(SettleFault::Memory);
             }
-            Err(CarryFault::Lost) => return Err(SettleFault::LinkFault),
+        };
+        match answer {
+            Ok(_) => {}
+            Err(refusal) => return Err(SettleFault::ByPut(refusal)),
         }
         let role = folder.policy().role(d);
         match self.resolve(goal, table, shown, pointers, hash, role) {
