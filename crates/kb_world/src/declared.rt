@@ -8,8 +8,8 @@ use crate::replies::LandFault;
 use kb_blocks::BlockHash;
 use kb_chain::{FolderRequest, PutRefusal, hash_of};
 use kb_device::{
-    CallFault, Called, CarryFault, Closed, Device, NoteFault, Noted, OpenFault, PickFault,
-    PullFault, PutAnswer, Status, landing_law, longer_law, put_over,
+    CallFault, Called, Closed, Device, NoteFault, Noted, OpenFault, PickFault, PullFault,
+    PutAnswer, Status, has_lost, landing_law, longer_law, put_over,
 };
 use kb_edge::{CrashDisk, Disk, MemLink, Pick, Side};
 use kb_folder::{Folder, machine_law};
@@ -112,11 +112,13 @@ impl<D: Disk, S: Sealer, H: BlockHash> Declared<D, S, H> {
         };
         let put = match put_over(&mut self.link, folder, request) {
             Ok(put) => put,
-            Err(CarryFault::Memory) => return Err(LandFault::ByFolder(PutRefusal::Memory)),
-            Err(CarryFault::Lost) => {
-                self.device.leave();
-                self.waiting = Waiting::Nothing;
-                return Err(LandFault::LinkFault);
+            Err(fault) => {
+                if has_lost(fault) {
+                    self.device.leave();
+                    self.waiting = Waiting::Nothing;
+                    return Err(LandFault::LinkFault);
+                }
+                return Err(LandFault::ByFolder(PutRefusal::Memory));
             }
         };
         let hash = hash_of(request.revision.as_slice());
