@@ -35,6 +35,7 @@ use Rattle.kb_world.proofs.Puts.{Grew, Landed, put_grew, lost_grew, declared_lon
 land_does : (r : Result ℕ code.LandFault) (d : ℕ) (c : Chain) (m n : Member) (c' : Chain) → IsLand r → LandSteps r d c m n c' → Landed r d c m n c'
 land_does (Ok number) d c m n c' some h = h
 land_does (Err land.NoFlight) d c m n c' some h = h
+land_does (Err land.LinkFault) d c m n c' some h = h
 land_does (Err (land.ByFolder why.BadRevision)) d c m n c' some h = h
 land_does (Err (land.ByFolder why.NotWriter)) d c m n c' some h = h
 land_does (Err (land.ByFolder why.BadSignature)) d c m n c' some h = h

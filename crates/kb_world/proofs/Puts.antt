@@ -220,18 +220,18 @@ module _ {D S H : Type 0} {disks : Ghosts D} {sealers : Seals S} {hashes : Hashe
     -- the folder's put is the machine's
     record Gone (put : Result ℕ PutRefusal) : Type 0 where
       answer : Result ℕ PutFault
-      means : Means put answer
+      told : Means put answer
       chain : Chain
       step : PutStep c ask answer chain
-      grows : Grows f g
-      has : HasChain sealers.sealed sealers.signed hashes.hashed seed names g chain
+      grown : Grows f g
+      had : HasChain sealers.sealed sealers.signed hashes.hashed seed names g chain
 
     gone : (put : Result ℕ PutRefusal) → Answers sealers.signed hashes.hashed f request g put → Gone put
     gone put made =
         let extends : Extends c ask = λ next room. land_follows d c m.name m.part ask meets.part asks next room in
         let told = means f g c request ask put has asked.2 made.0 made.1 in
         let to = goes f g request put told.0 made.0 told.1 c ask lawful extends has asked.2 in
-        record { answer = told.0; means = told.1; chain = to.0; step = to.1; grows = to.2; has = to.3 }
+        record { answer = told.0; told = told.1; chain = to.0; step = to.1; grown = to.2; had = to.3 }
 
     -- the request is put, and its answer comes back
     pub puts_request : SentLands sealers.sealed sealers.signed hashes.hashed seed names → (answer : PutAnswer) → Answers sealers.signed hashes.hashed f request g answer.number → Carries (Some x.link.armed) (Some y.link.armed) → answer.hash ≡ sha256 request.revision
@@ -243,17 +243,17 @@ module _ {D S H : Type 0} {disks : Ghosts D} {sealers : Seals S} {hashes : Hashe
         let c' = to.chain in
         let grew = put_grew c ask to.answer c' to.step in
         let n : Member = record m { waiting = Answered to.answer } in
-        let part = device_longer sealers.sealed sealers.signed hashes.hashed seed names f g c c' grew to.grows has to.has longer request_stays answers_stay d h.view m.part meets.part h.part in
+        let part = device_longer sealers.sealed sealers.signed hashes.hashed seed names f g c c' grew to.grown has to.had longer request_stays answers_stay d h.view m.part meets.part h.part in
         let number : (s : Inside) (a : Aloft) (k : ℕ) → h.view.inside ≡ Some s → s.aloft ≡ Some a → put ≡ Ok k → k ≡ a.flight.number =
         λ s a k is flies ok.
-        taken_number c c' ask put to.answer k to.means to.step ok ∙ ap (λ (q : Ask). q.number) asks.ask_is
+        taken_number c c' ask put to.answer k to.told to.step ok ∙ ap (λ (q : Ask). q.number) asks.ask_is
         ∙ ap (λ (q : Flight). q.number) (flight_once m.part asks.flight a.flight asks.flight_is (flight_at sealers.sealed sealers.signed hashes.hashed seed names d f c h.view m.part s a h.part is flies)) in
         let stands = lands d f g c h.view m.part request answer has h.part asked.3 made.0 hash number in (
           n,
           c',
-          land_shape put d c m n c' made.1 (landed to.answer, is_landing put to.answer to.means, inl (inl (record { ask = ask; waits = asked.1; carried = h.link ∙ carries.0; answer = to.answer; step = to.step; reply_is = refl; member = refl }))),
-          to.has,
-          to.grows,
+          land_shape put d c m n c' made.1 (landed to.answer, is_landing put to.answer to.told, inl (inl (record { ask = ask; waits = asked.1; carried = h.link ∙ carries.0; answer = to.answer; step = to.step; reply_is = refl; member = refl }))),
+          to.had,
+          to.grown,
           record {
             name = name ∙ h.name;
             named = h.named;
@@ -261,7 +261,7 @@ module _ {D S H : Type 0} {disks : Ghosts D} {sealers : Seals S} {hashes : Hashe
             is = subst (λ e. IsView e h.view) (sym device) h.is;
             runs = subst (λ e. ForSome e.session (Runs e.number)) (sym device) h.runs;
             part = part;
-            waits = subst (λ k. WaitsFor sealers.sealed sealers.signed hashes.hashed seed names g h.view k (Answered to.answer)) (sym waiting) (to.means, stands);
+            waits = subst (λ k. WaitsFor sealers.sealed sealers.signed hashes.hashed seed names g h.view k (Answered to.answer)) (sym waiting) (to.told, stands);
             link = h.link ∙ carries.0 ∙ sym carries.1;
             batch = h.batch;
           },
@@ -305,9 +305,9 @@ module _ {D S H : Type 0} {disks : Ghosts D} {sealers : Seals S} {hashes : Hashe
             cut_off m,
             c',
             (Err (statements.LinkFault (Some to.answer)), (Some to.answer, refl), inl (inr (record { ask = ask; waits = asked.1; lost = Some to.answer; side = h.link ∙ lost.2.0; step = to.step; reply_is = refl; member = refl }))),
-            to.has,
-            to.grows,
-            gone_off c' lost.2.1 (device_longer sealers.sealed sealers.signed hashes.hashed seed names f g c c' grew to.grows has to.has longer request_stays answers_stay d w (closed m.part) (closed_part d c m.part meets.part) left),
+            to.had,
+            to.grown,
+            gone_off c' lost.2.1 (device_longer sealers.sealed sealers.signed hashes.hashed seed names f g c c' grew to.grown has to.had longer request_stays answers_stay d w (closed m.part) (closed_part d c m.part meets.part) left),
           )
 
   -- no request waits

@@ -3,13 +3,13 @@ use Rattle.kb_folder.specs.Held.{held}
 use Rattle.kb_snap.specs.Chains.{Chain}
 use Rattle.kb_folder.specs.Goes.{HasChain, Grows}
 use Rattle.kb_device.specs.Links.{PutsOver}
+use Rattle.kb_device.specs.declared.answers.PutAnswer.{PutAnswer}
 use Rattle.kb_device.proofs.Links.{memory_over}
 use Rattle.kb_world.specs.Machine.{Member}
 use Rattle.kb_world.specs.Turning.{LandSteps}
 use Rattle.kb_world.specs.Standing.{DeclaredStands}
 use Rattle.kb_world.proofs.Puts.{landing_of, puts_none, puts_lack, puts_request, loses_request}
 use Rattle.sha2.specs.Sha256.{sha256}
-use Rattle.kb_world.specs.declared.declared.Waiting as waits
 use Rattle.kb_world.specs.declared.declared.Waiting.TheVariants as kept
 use Rattle.kb_world.proofs.declared.Declared.land.Goals as goal
 
@@ -30,16 +30,14 @@ returns-in-Err-clause-goes g c seed names d chain m lawful meets has h =
 
 pub returns-in-Ok-put-clause-goes : goal.returns-in-Ok-put-clause-goes
 returns-in-Ok-put-clause-goes g c seed names d chain m lawful meets has h =
-    let answer = (record { number = c.in-Ok.put; hash = c.hash_of-hash.result }) in
-    let after = (record { name = c.args.self.now.name; device = c.args.self.now.device; waiting = kept.Answer answer; link = c.put_over.new.link }) in
-    subst (λ r. (n : Member) × (e : Chain) × LandSteps (landing_of r) d chain m n e × HasChain g.S.Sealer.sealed g.S.Sealer.signed g.H.BlockHash.hashed seed names (held c.put_over.new.folder) e × Grows (held c.args.folder.now) (held c.put_over.new.folder) × DeclaredStands seed names d (held c.put_over.new.folder) e after n) c.in-Ok-put.is
-    (puts_request seed names (held c.args.folder.now) (held c.put_over.new.folder) c.args.self.now after refl (c.machine_law.ensures.goes seed names) (c.machine_law.ensures.means seed names) (c.longer_law.ensures seed names) (c.machine_law.ensures.stay seed names) (c.landing_law.ensures.stays seed names)
+    let answer : PutAnswer = record { number = c.in-Ok.put; hash = c.hash_of-hash.result } in
+    subst (λ r. (n : Member) × (e : Chain) × LandSteps (landing_of r) d chain m n e × HasChain g.S.Sealer.sealed g.S.Sealer.signed g.H.BlockHash.hashed seed names (held c.put_over.new.folder) e × Grows (held c.args.folder.now) (held c.put_over.new.folder) × DeclaredStands seed names d (held c.put_over.new.folder) e (record { name = c.args.self.now.name; device = c.args.self.now.device; waiting = kept.Answer answer; link = c.put_over.new.link }) n) c.in-Ok-put.is
+    (puts_request seed names (held c.args.folder.now) (held c.put_over.new.folder) c.args.self.now (record { name = c.args.self.now.name; device = c.args.self.now.device; waiting = kept.Answer answer; link = c.put_over.new.link }) refl (c.machine_law.ensures.goes seed names) (c.machine_law.ensures.means seed names) (c.longer_law.ensures seed names) (c.machine_law.ensures.stay seed names) (c.landing_law.ensures.stays seed names)
         d chain m lawful meets has h c.in-Request.request c.in-Request.is (c.landing_law.ensures.lands seed names) answer c.in-Ok.ensures.does.0 c.in-Ok.ensures.does.1 (c.hash_of-hash.ensures ∙ ap sha256 c.as_slice.ensures) refl refl)
 
 pub returns-in-Err-put-clause-goes : goal.returns-in-Err-put-clause-goes
 returns-in-Err-put-clause-goes g c seed names d chain m lawful meets has h =
-    let answer = (record { number = c.in-Ok.put; hash = c.hash_of-hash.result }) in
-    let after = (record { name = c.args.self.now.name; device = c.args.self.now.device; waiting = kept.Answer answer; link = c.put_over.new.link }) in
-    subst (λ r. (n : Member) × (e : Chain) × LandSteps (landing_of r) d chain m n e × HasChain g.S.Sealer.sealed g.S.Sealer.signed g.H.BlockHash.hashed seed names (held c.put_over.new.folder) e × Grows (held c.args.folder.now) (held c.put_over.new.folder) × DeclaredStands seed names d (held c.put_over.new.folder) e after n) c.in-Err-put.is
-    (puts_request seed names (held c.args.folder.now) (held c.put_over.new.folder) c.args.self.now after refl (c.machine_law.ensures.goes seed names) (c.machine_law.ensures.means seed names) (c.longer_law.ensures seed names) (c.machine_law.ensures.stay seed names) (c.landing_law.ensures.stays seed names)
+    let answer : PutAnswer = record { number = c.in-Ok.put; hash = c.hash_of-hash.result } in
+    subst (λ r. (n : Member) × (e : Chain) × LandSteps (landing_of r) d chain m n e × HasChain g.S.Sealer.sealed g.S.Sealer.signed g.H.BlockHash.hashed seed names (held c.put_over.new.folder) e × Grows (held c.args.folder.now) (held c.put_over.new.folder) × DeclaredStands seed names d (held c.put_over.new.folder) e (record { name = c.args.self.now.name; device = c.args.self.now.device; waiting = kept.Answer answer; link = c.put_over.new.link }) n) c.in-Err-put.is
+    (puts_request seed names (held c.args.folder.now) (held c.put_over.new.folder) c.args.self.now (record { name = c.args.self.now.name; device = c.args.self.now.device; waiting = kept.Answer answer; link = c.put_over.new.link }) refl (c.machine_law.ensures.goes seed names) (c.machine_law.ensures.means seed names) (c.longer_law.ensures seed names) (c.machine_law.ensures.stay seed names) (c.landing_law.ensures.stays seed names)
         d chain m lawful meets has h c.in-Request.request c.in-Request.is (c.landing_law.ensures.lands seed names) answer c.in-Ok.ensures.does.0 c.in-Ok.ensures.does.1 (c.hash_of-hash.ensures ∙ ap sha256 c.as_slice.ensures) refl refl)
