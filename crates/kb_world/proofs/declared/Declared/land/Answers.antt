@@ -21,7 +21,7 @@ returns-then-has_lost-clause-goes g c seed names d chain m lawful meets has h =
     let lost = subst (λ x. PutsOver g.S.Sealer.signed g.H.BlockHash.hashed (held c.args.folder.now) c.in-Request.request (held c.put_over.new.folder) (Some c.args.self.now.link.armed) (Some c.put_over.new.link.armed) (Err x)) (c.has_lost.ensures.lost c.if-has_lost.true) c.in-Err.ensures.does in
     let went = c.leave.ensures.goes seed names h.view h.is in
     loses_request seed names (held c.args.folder.now) (held c.put_over.new.folder) c.args.self.now (record { name = c.args.self.now.name; device = c.leave.new.self; waiting = kept.Nothing; link = c.put_over.new.link }) refl (c.machine_law.ensures.goes seed names) (c.machine_law.ensures.means seed names)
-        (c.longer_law.ensures seed names) (c.machine_law.ensures.stay seed names) (c.landing_law.ensures.stays seed names) d chain m lawful meets has h c.in-Request.request c.in-Request.is went.0 went.1 (λ s is. absurd (let e : None ≡ Some s = sym c.leave.ensures.closed ∙ is in cc)) went.2 refl lost
+    (c.longer_law.ensures seed names) (c.machine_law.ensures.stay seed names) (c.landing_law.ensures.stays seed names) d chain m lawful meets has h c.in-Request.request c.in-Request.is went.0 went.1 (λ s is. absurd (let e : None ≡ Some s = sym c.leave.ensures.closed ∙ is in cc)) went.2 refl lost
 
 pub returns-in-Err-clause-goes : goal.returns-in-Err-clause-goes
 returns-in-Err-clause-goes g c seed names d chain m lawful meets has h =
@@ -33,11 +33,11 @@ returns-in-Ok-put-clause-goes g c seed names d chain m lawful meets has h =
     let answer : PutAnswer = record { number = c.in-Ok.put; hash = c.hash_of-hash.result } in
     subst (λ r. (n : Member) × (e : Chain) × LandSteps (landing_of r) d chain m n e × HasChain g.S.Sealer.sealed g.S.Sealer.signed g.H.BlockHash.hashed seed names (held c.put_over.new.folder) e × Grows (held c.args.folder.now) (held c.put_over.new.folder) × DeclaredStands seed names d (held c.put_over.new.folder) e (record { name = c.args.self.now.name; device = c.args.self.now.device; waiting = kept.Answer answer; link = c.put_over.new.link }) n) c.in-Ok-put.is
     (puts_request seed names (held c.args.folder.now) (held c.put_over.new.folder) c.args.self.now (record { name = c.args.self.now.name; device = c.args.self.now.device; waiting = kept.Answer answer; link = c.put_over.new.link }) refl (c.machine_law.ensures.goes seed names) (c.machine_law.ensures.means seed names) (c.longer_law.ensures seed names) (c.machine_law.ensures.stay seed names) (c.landing_law.ensures.stays seed names)
-        d chain m lawful meets has h c.in-Request.request c.in-Request.is (c.landing_law.ensures.lands seed names) answer c.in-Ok.ensures.does.0 c.in-Ok.ensures.does.1 (c.hash_of-hash.ensures ∙ ap sha256 c.as_slice.ensures) refl refl)
+    d chain m lawful meets has h c.in-Request.request c.in-Request.is (c.landing_law.ensures.lands seed names) answer c.in-Ok.ensures.does.0 c.in-Ok.ensures.does.1 (c.hash_of-hash.ensures ∙ ap sha256 c.as_slice.ensures) refl refl)
 
 pub returns-in-Err-put-clause-goes : goal.returns-in-Err-put-clause-goes
 returns-in-Err-put-clause-goes g c seed names d chain m lawful meets has h =
     let answer : PutAnswer = record { number = c.in-Ok.put; hash = c.hash_of-hash.result } in
     subst (λ r. (n : Member) × (e : Chain) × LandSteps (landing_of r) d chain m n e × HasChain g.S.Sealer.sealed g.S.Sealer.signed g.H.BlockHash.hashed seed names (held c.put_over.new.folder) e × Grows (held c.args.folder.now) (held c.put_over.new.folder) × DeclaredStands seed names d (held c.put_over.new.folder) e (record { name = c.args.self.now.name; device = c.args.self.now.device; waiting = kept.Answer answer; link = c.put_over.new.link }) n) c.in-Err-put.is
     (puts_request seed names (held c.args.folder.now) (held c.put_over.new.folder) c.args.self.now (record { name = c.args.self.now.name; device = c.args.self.now.device; waiting = kept.Answer answer; link = c.put_over.new.link }) refl (c.machine_law.ensures.goes seed names) (c.machine_law.ensures.means seed names) (c.longer_law.ensures seed names) (c.machine_law.ensures.stay seed names) (c.landing_law.ensures.stays seed names)
-        d chain m lawful meets has h c.in-Request.request c.in-Request.is (c.landing_law.ensures.lands seed names) answer c.in-Ok.ensures.does.0 c.in-Ok.ensures.does.1 (c.hash_of-hash.ensures ∙ ap sha256 c.as_slice.ensures) refl refl)
+    d chain m lawful meets has h c.in-Request.request c.in-Request.is (c.landing_law.ensures.lands seed names) answer c.in-Ok.ensures.does.0 c.in-Ok.ensures.does.1 (c.hash_of-hash.ensures ∙ ap sha256 c.as_slice.ensures) refl refl)
