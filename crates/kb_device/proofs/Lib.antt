@@ -1,5 +1,6 @@
 pub mod Firsts
 pub mod Options
+pub mod Links
 pub mod Longer
 pub mod Running
 pub mod Picks

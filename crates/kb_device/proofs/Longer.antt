@@ -12,7 +12,7 @@ use Rattle.kb_device.proofs.Shared.{known_longer, all_within}
 use Rattle.kb_device.proofs.OldFiles.{old_within}
 use Rattle.kb_snap.specs.Chains.{Chain}
 use Rattle.kb_device.specs.Journals.{plain}
-use Rattle.kb_device.specs.Parts.{Part}
+use Rattle.kb_device.specs.Parts.{Part, closed}
 use Rattle.kb_device.specs.Meets.{Meets, PartMeets}
 use Rattle.kb_device.specs.Disks.{hash_at, IsKept}
 use Rattle.kb_snap.proofs.Chains.{tree_longer}
@@ -120,6 +120,19 @@ module _ (sealed signed : List ℕ → List ℕ → List ℕ) (hashed : List ℕ
       disk = disk_longer v.disk h.disk;
       session = inside_longer v.inside h.session;
     }
+
+    -- and once its session has ended, on the same disk, it stands for the closed part under any chain
+    pub closed_longer : (c' : Chain) (v : Member) (now : Platter) → now ≡ v.disk → DeviceStands sealed signed hashed seed names d f c v p → DeviceStands sealed signed hashed seed names d new c' (record v { disk = now; inside = None }) (closed p)
+    closed_longer c' v now same h =
+        let disk = disk_longer v.disk h.disk in
+        record {
+          number = h.number;
+          name = h.name;
+          secret = h.secret;
+          registered = (h.registered.0, subst (λ n. d ≤ n) (sym (registered_grown f new grows)) h.registered.1);
+          disk = subst (λ (x : Platter). DiskStands new.revisions x (closed p)) (sym same) (record { images = disk.images; area = disk.area; left = disk.left });
+          session = refl;
+        }
 
   pub stands_longer : StandsLonger sealed signed hashed seed names
   stands_longer d f new c more v p grows has has' part h = device_longer d f new c more p grows has part v h

@@ -1,5 +1,5 @@
--- A new device, one that is armed, one whose power is cut, and what an open one shows and tells.
-use Rattle.std.proofs.Common.{◌≡◌, ℕ, ◌≤◌, false, Bool, not, List, length, Option, None, Some, is_some, Result, Ok, Err, MatchOption, refl, sym, ap, subst, ◌∙◌, arith}
+-- A new device, one that is armed, one whose power is cut, one whose session ends, and what an open one shows and tells.
+use Rattle.std.proofs.Common.{◌≡◌, ℕ, ◌≤◌, false, Bool, not, List, length, Option, None, Some, is_some, Result, Ok, Err, MatchOption, inl, refl, sym, ap, subst, ◌∙◌, arith}
 use Rattle.std.specs.Prelude.{replicate, slice_index}
 use Rattle.std.specs.Option.{option_map}
 use Rattle.std.proofs.lemmas.List.{ext_get_or, length-replicate}
@@ -17,7 +17,7 @@ use Rattle.kb_journal.proofs.Zeros.{zeros_state}
 use Rattle.kb_snap.specs.Chains.{Chain}
 use Rattle.kb_device.specs.Disks.{IsKept}
 use Rattle.kb_device.specs.Journals.{plain}
-use Rattle.kb_device.specs.Parts.{Part, new_part, armed, powered, status_of}
+use Rattle.kb_device.specs.Parts.{Part, new_part, armed, powered, closed, status_of}
 use Rattle.kb_folder.specs.Chains.{Names}
 use Rattle.kb_folder.specs.Stands.{Revisions}
 use Rattle.kb_folder.specs.Puts.{Held}
@@ -34,6 +34,7 @@ use Rattle.kb_device.specs.declared.called.LookFault.{LookFault}
 use Rattle.kb_device.specs.declared.called.LookFault.TheVariants as fault
 use Rattle.kb_device.specs.declared.session.Session.{Session}
 use Rattle.kb_device.specs.declared.device.Device.{Device}
+use Rattle.kb_device.proofs.Longer.{closed_longer}
 use Rattle.kb_device.proofs.Picks.{inside_at, closed_at}
 use Rattle.kb_device.proofs.Views.{rest_view}
 
@@ -134,6 +135,9 @@ module _ (sealed signed : List ℕ → List ℕ → List ℕ) (hashed : List ℕ
     },
   )
 
+  leaves_go : (v : Member) (now : Platter) → now ≡ v.disk → DeviceGoes sealed signed hashed seed names v.number v (record v { disk = now; inside = None }) (λ p q. q ≡ closed p)
+  leaves_go v now same f c p part has stands = (closed p, refl, closed_longer sealed signed hashed seed names v.number f f c c p (inl refl) has part c v now same stands)
+
   -- ---- devices of the program
 
   changed : {D : Type 0} (R : D → D → Type 0) (a b : Option D) (disk : D) → Changes R a b → a ≡ Some disk → (now : D) × (b ≡ Some now) × R disk now
@@ -193,6 +197,14 @@ module _ (sealed signed : List ℕ → List ℕ → List ℕ) (hashed : List ℕ
           rest_view old new v to.0 number name secret to.1 none view,
           cuts_go v (platter disks to.0) (subst (λ (x : Platter). IsCut x (platter disks to.0)) (sym view.disk) to.2),
         )
+
+    pub leaves : (v : Member) → is_some old.resting ≡ not (is_some old.session) → new.resting ≡ rested old.session old.resting → new.session ≡ None → IsView old v
+        → (w : Member) × IsView new w × DeviceGoes sealed signed hashed seed names v.number v w (λ p q. q ≡ closed p)
+    leaves v one is none view = (
+      record v { disk = platter disks view.held; inside = None },
+      rest_view old new v view.held number name secret (is ∙ rested_is old.resting old.session view.held one view.has) none view,
+      leaves_go v (platter disks view.held) (sym view.disk),
+    )
 
   -- ---- shows and status
 

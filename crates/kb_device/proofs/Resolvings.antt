@@ -1,11 +1,13 @@
--- What a settle does is what the machine's settle does.
+-- What a settle over a link does is what the machine's settle does.
 use Rattle.std.proofs.Common.{◌≡◌, ◌≢◌, ℕ, suc, ◌+◌, ◌<◌, ◌≤◌, true, false, List, [], ◌∷◌, ◌++◌, length, drop, take, Option, None, Some, Result, Ok, Err, inl, inr, refl, sym, ap, subst, ◌∙◌, arith, length-append}
-use Rattle.std.specs.Prelude.{IsSomeAnd, Contains}
+use Rattle.std.specs.Prelude.{◌⊎◌, IsSomeAnd, Contains}
 use Rattle.std.specs.Option.{option_map}
 use Rattle.std.specs.FinMap.{get}
 use Rattle.std.proofs.lemmas.List.{take_all}
 use Rattle.sha2.specs.Sha256.{sha256}
 use Rattle.kb_edge.specs.Disk.{FallsBy}
+use Rattle.kb_edge.specs.declared.link.Side.{Side}
+use Rattle.kb_edge.specs.declared.link.Side.TheVariants.{Request, Reply}
 use Rattle.kb_log.specs.LogList.{area_size}
 use Rattle.kb_name.specs.Names.{is_device_name}
 use Rattle.kb_ops.specs.Trees.{Tree, look, fold_ops}
@@ -42,20 +44,22 @@ use Rattle.kb_device.specs.Fresh.{IdsEndAt, IsOwned}
 use Rattle.kb_device.specs.Inside.{Plan, Inside, IsRunning}
 use Rattle.kb_device.specs.Journals.{Journal, plain, taken}
 use Rattle.kb_device.specs.Knowing.{KnowsFolder}
+use Rattle.kb_device.specs.Links.{WhereTold, Carries, Loses, LinkAfter}
 use Rattle.kb_device.specs.Meets.{Meets, SessionMeets, PartMeets}
 use Rattle.kb_device.specs.Merging.{merge_plain, IsMergeRequest}
 use Rattle.kb_device.specs.Noting.{Writes, Stops}
-use Rattle.kb_device.specs.Parts.{Merger, IsMerger, Part, HasPlan, SettleStep, merge_ask, report_at, tree_shown, ended}
+use Rattle.kb_device.specs.Parts.{Merger, IsMerger, Part, HasPlan, SettleStep, merge_ask, report_at, tree_shown, closed, ended}
 use Rattle.kb_device.specs.Remembering.{Remembers}
 use Rattle.kb_device.specs.Resolving.{merger_of, MaySettle, SettleGoes, Tells, SettleAnswers, StaysOwned}
-use Rattle.kb_device.specs.Settling.{grown, resolved, with_merge, IsMergeOf, report_of, Asks, Settles, SettleBreaks, Drops, Stays, SettleDoes, UnlessStopped, is_stopped}
+use Rattle.kb_device.specs.Settling.{grown, resolved, with_merge, IsMergeOf, report_of, Asks, Settles, SettleBreaks, Drops, RequestLost, ReplyLost, Stays, Fills, SettleDoes, UnlessEnded, ends}
 use Rattle.kb_device.specs.SettlesFor.{branch_at, SettlesAreFor}
 use Rattle.kb_device.specs.Stands.{Platter, Member, PlanStands, hashes_of, DiskStands, SessionStands, DeviceStands}
 use Rattle.kb_device.specs.declared.settled.SettleFault.{SettleFault}
 use Rattle.kb_device.specs.declared.settled.SettleFault.TheVariants as fault
 use Rattle.kb_device.proofs.Hashes.{same_hash, last_hash}
 use Rattle.kb_device.proofs.Ids.{chain_ids, ids_more}
-use Rattle.kb_device.proofs.Longer.{chain_length, hash_longer}
+use Rattle.kb_device.proofs.Links.{told_same}
+use Rattle.kb_device.proofs.Longer.{chain_length, hash_longer, closed_longer}
 use Rattle.kb_device.proofs.MergedPointers.{left_hold}
 use Rattle.kb_device.proofs.Notings.{stands_with, stands_closed}
 use Rattle.kb_device.proofs.Owned.{landed_length}
@@ -98,25 +102,28 @@ refusal_of (why.SeqGap expected) answer means = absurd means
 refusal_of why.BadFit answer means = absurd means
 refusal_of why.Memory answer means = absurd means
 
-not_memory : (x : PutRefusal) → (x ≡ why.Memory → ⊥) → (let r : Result ℕ PutRefusal = Err x in let m : Result ℕ PutRefusal = Err why.Memory in r ≢ m)
-not_memory x other e = other (let same : x ≡ why.Memory = cc in same)
-
 drop_all : {A : Type 0} (xs : List A) → drop (length xs) xs ≡ []
 drop_all [] = refl
 drop_all (x ∷ xs) = drop_all xs
 
--- the device after it, whose session has ended where the disk stopped
+-- the device after it, whose session has ended where the link lost something or the disk stopped
 abbrev member_of : Member → Inside → Platter → Result ℕ SettleFault → Member
+member_of old t now (Err fault.LinkFault) = record old { disk = now; inside = None }
 member_of old t now (Err fault.Stopped) = record old { disk = now; inside = None }
 member_of old t now r = record old { disk = now; inside = Some t }
 
 module _ (sealed signed : List ℕ → List ℕ → List ℕ) (hashed : List ℕ → List ℕ) (seed : List ℕ) (names : Names) (moment : ℕ) (f g : Held) (old : Member) (s : Inside) (was : old.inside ≡ Some s) (tree : Tree)
-    (go : PutsGo sealed signed hashed seed names) (mean : PutsMean sealed signed hashed seed names) (law : SettlesAreFor sealed signed hashed seed names) where
+    (armed armed' : Option (Option Side)) (go : PutsGo sealed signed hashed seed names) (mean : PutsMean sealed signed hashed seed names) (law : SettlesAreFor sealed signed hashed seed names) where
   abbrev d : ℕ
   d = old.number
 
   abbrev by : Merger
   by = merger_of old moment
+
+  -- the machine's settle with an answer of which this holds, after which the device is this one
+  abbrev Gone : Chain → Part → (Result (ℕ × Report) says.SettleFault → Type 0) → Member → Type 0
+  Gone c p Told new = (answer : Result (ℕ × Report) says.SettleFault) × (c' : Chain) × (q : Part) × Told answer × SettleStep d by c p answer c' q × Grows f g × HasChain sealed signed hashed seed names g c'
+      × DeviceStands sealed signed hashed seed names d g c' new q × WhereTold armed armed' (λ was is. LinkAfter was answer is)
 
   module _ (c : Chain) (p : Part) (may : MaySettle sealed signed hashed seed names moment f old tree c p) where
     session : SessionStands sealed signed hashed seed names f c s p
@@ -190,7 +197,7 @@ module _ (sealed signed : List ℕ → List ℕ → List ℕ) (hashed : List ℕ
       extends next room = settle_follows d c by p j x.number may.part session.at plan_is next room may.lawful may.merger few
 
       went : (told : Result ℕ PutFault) → Means answer told → (c' : Chain) × PutStep c ask told c' × Grows f g × HasChain sealed signed hashed seed names g c'
-      went told means = go f g a.request answer told a.put means c ask may.lawful extends may.has is_for
+      went told means = go f g a.request answer told a.put.0 means c ask may.lawful extends may.has is_for
 
     -- ---- it landed
 
@@ -242,12 +249,12 @@ module _ (sealed signed : List ℕ → List ℕ → List ℕ) (hashed : List ℕ
 
       remembers : Remembers sealed hashed seed g longer n hash a.plan.generation a.pointers a.cache
       remembers = subst (λ k. Remembers sealed hashed seed g longer k hash a.plan.generation a.pointers a.cache) (sym end)
-          (remembers_taken sealed signed hashed seed names f g c y a.request number a.plan.generation tree a.asked.left a.pointers a.plan.cache a.cache may.has a.put (tree_now ∙ ap (tree_at longer) end) generation_now (low t now (Ok number) a) a.takes
+          (remembers_taken sealed signed hashed seed names f g c y a.request number a.plan.generation tree a.asked.left a.pointers a.plan.cache a.cache may.has a.put.0 (tree_now ∙ ap (tree_at longer) end) generation_now (low t now (Ok number) a) a.takes
           (left_held t now (Ok number) a)
           (subst (λ k. OnceAllStored hashed sealed a.plan.generation k a.request.blocks (λ vault. AllHold vault (look tree) a.asked.left → AllHold vault (look tree) a.pointers)) (key_is t now (Ok number) a) a.asked.holds))
 
       bytes_is : g.revisions ≡ a.request.revision ∷ f.revisions
-      bytes_is = a.put.revisions
+      bytes_is = a.put.0.revisions
 
       size : length c ≡ length f.revisions
       size = chain_length sealed signed hashed seed names f c may.has
@@ -323,10 +330,9 @@ module _ (sealed signed : List ℕ → List ℕ → List ℕ) (hashed : List ℕ
       device_closed : (q : Part) → DiskStands g.revisions now q → q.is_open ≡ false → DeviceStands sealed signed hashed seed names d g longer (record old { disk = now; inside = None }) q
       device_closed q disk closed = record { number = refl; name = may.stands.name; secret = may.stands.secret; registered = registered; disk = disk; session = closed }
 
-      pub settles_go : (role_is : t ≡ with_merge s (grown a.plan a.cache) tree a.pointers hash (role_at g.state.policy.0 d)) → Writes after old.disk now → IsRunning t
-          → (answer : Result (ℕ × Report) says.SettleFault) × (c' : Chain) × (q : Part) × Tells sealed signed hashed seed names moment f old tree g (record old { disk = now; inside = Some t }) (Ok n) answer × SettleStep d by c p answer c' q × Grows f g × HasChain sealed signed hashed seed names g c'
-          × DeviceStands sealed signed hashed seed names d g c' (record old { disk = now; inside = Some t }) q
-      settles_go same w running = (
+      pub settles_go : (role_is : t ≡ with_merge s (grown a.plan a.cache) tree a.pointers hash (role_at g.state.policy.0 d)) → Writes after old.disk now → IsRunning t → Carries armed armed'
+          → Gone c p (Tells sealed signed hashed seed names moment f old tree g (record old { disk = now; inside = Some t }) armed armed' (Ok n)) (record old { disk = now; inside = Some t })
+      settles_go same w running link = (
         Ok (n, report_at d by p c j a.plan.number),
         longer,
         settled_part now.left,
@@ -335,12 +341,11 @@ module _ (sealed signed : List ℕ → List ℕ → List ℕ) (hashed : List ℕ
         there.2,
         has,
         device_after (settled_part now.left) t (disk_after w) (subst (λ u. SessionStands sealed signed hashed seed names g longer u (settled_part now.left)) (sym same) (settled_session now.left (subst IsRunning same running))),
+        link,
       )
 
-      pub settle_breaks : Stops s.journal after old.disk now
-          → (answer : Result (ℕ × Report) says.SettleFault) × (c' : Chain) × (q : Part) × (answer ≡ Err says.SettleFault.Stopped) × SettleStep d by c p answer c' q × Grows f g × HasChain sealed signed hashed seed names g c'
-          × DeviceStands sealed signed hashed seed names d g c' (record old { disk = now; inside = None }) q
-      settle_breaks w = (
+      pub settle_breaks : Stops s.journal after old.disk now → Carries armed armed' → Gone c p (λ answer. answer ≡ Err says.SettleFault.Stopped) (record old { disk = now; inside = None })
+      settle_breaks w link = (
         Err says.SettleFault.Stopped,
         longer,
         broken,
@@ -349,6 +354,7 @@ module _ (sealed signed : List ℕ → List ℕ → List ℕ) (hashed : List ℕ
         there.2,
         has,
         device_closed broken (disk_broken w) refl,
+        link,
       )
 
       -- no id of the merge is a later one of the device
@@ -380,19 +386,54 @@ module _ (sealed signed : List ℕ → List ℕ → List ℕ) (hashed : List ℕ
     has_still : g ≡ f → HasChain sealed signed hashed seed names g c
     has_still folder = subst (λ (k : Held). HasChain sealed signed hashed seed names k c) (sym folder) may.has
 
+    -- ---- the link lost it
+
+    lost_stands : (now : Platter) → now ≡ old.disk → Grows f g → (c' : Chain) → DeviceStands sealed signed hashed seed names d g c' (record old { disk = now; inside = None }) (closed p)
+    lost_stands now same grows c' = closed_longer sealed signed hashed seed names d f g c c p grows may.has may.part c' old now same may.stands
+
+    pub request_goes : (t : Inside) (now : Platter) → RequestLost sealed signed hashed f g d old.secret moment tree s old.disk t now → Loses Request armed armed'
+        → Gone c p (λ answer. (lost : Option (Result ℕ PutFault)) × (answer ≡ Err (says.LinkFault lost))) (record old { disk = now; inside = None })
+    request_goes t now lost link = (
+      Err (says.LinkFault None),
+      c,
+      closed p,
+      (None, refl),
+      record { journal = j; plan = lost.plan.number; planned = record { at = session.at; plan_is = session.plan ∙ ap (option_map (λ (z : Plan). z.number)) lost.planned }; put = refl; part = refl },
+      inl lost.folder,
+      has_still lost.folder,
+      lost_stands now lost.disk (inl lost.folder) c,
+      link,
+    )
+
+    pub reply_goes : (t : Inside) (now : Platter) → ReplyLost sealed signed hashed f g d old.secret moment tree s old.disk t now → Loses Reply armed armed'
+        → Gone c p (λ answer. (lost : Option (Result ℕ PutFault)) × (answer ≡ Err (says.LinkFault lost))) (record old { disk = now; inside = None })
+    reply_goes t now lost link =
+        let a = lost.asks in
+        let told = mean f g c a.request (merge_ask d by j a.plan.number) lost.answer may.has (is_for t now lost.answer a) a.put.0 a.put.1 in
+        let there = went t now lost.answer a told.0 told.1 in (
+          Err (says.LinkFault (Some told.0)),
+          there.0,
+          closed p,
+          (Some told.0, refl),
+          record { journal = j; plan = a.plan.number; planned = has_plan t now lost.answer a; put = there.1; part = refl },
+          there.2,
+          there.3,
+          lost_stands now lost.disk there.2 there.0,
+          link,
+        )
+
     -- ---- it was refused
 
-    pub drops_go : (t : Inside) (now : Platter) (refusal : PutRefusal) → Drops sealed signed hashed f g d old.secret moment tree s old.disk t now refusal → IsRunning t
-        → (answer : Result (ℕ × Report) says.SettleFault) × (c' : Chain) × (q : Part) × ((e : PutFault) × (let r : Result ℕ PutRefusal = Err refusal in Means r (Err e)) × (answer ≡ Err (says.SettleFault.ByPut e))) × SettleStep d by c p answer c' q × Grows f g
-        × HasChain sealed signed hashed seed names g c' × DeviceStands sealed signed hashed seed names d g c' (record old { disk = now; inside = Some t }) q
-    drops_go t now refusal does running =
+    pub drops_go : (t : Inside) (now : Platter) (refusal : PutRefusal) → Drops sealed signed hashed f g d old.secret moment tree s old.disk t now refusal → IsRunning t → Carries armed armed'
+        → Gone c p (λ answer. (e : PutFault) × (let r : Result ℕ PutRefusal = Err refusal in Means r (Err e)) × (answer ≡ Err (says.SettleFault.ByPut e))) (record old { disk = now; inside = Some t })
+    drops_go t now refusal does running link =
         let a = does.asks in
-        let told = mean f g c a.request (merge_ask d by j a.plan.number) (Err refusal) may.has (is_for t now (Err refusal) a) a.put (not_memory refusal does.other) in
+        let told = mean f g c a.request (merge_ask d by j a.plan.number) (Err refusal) may.has (is_for t now (Err refusal) a) a.put.0 a.put.1 in
         let e = refusal_of refusal told.0 told.1 in
         let means = subst (λ (o : Result ℕ PutFault). (let r : Result ℕ PutRefusal = Err refusal in Means r o)) e.1 told.1 in
         let there = went t now (Err refusal) a (Err e.0) means in
         let chain = same_chain c (merge_ask d by j a.plan.number) e.0 there.0 there.1 in
-        let folder : g ≡ f = a.put.1 in
+        let folder : g ≡ f = a.put.0.1 in
         let h = may.stands in
         let q : Part = record p { plan = None } in
         let begun : IsRunning (record s { plan = None }) = subst IsRunning does.session running in
@@ -419,12 +460,11 @@ module _ (sealed signed : List ℕ → List ℕ → List ℕ) (hashed : List ℕ
           inl folder,
           has_still folder,
           subst (λ (k : Held). DeviceStands sealed signed hashed seed names d k c (record old { disk = now; inside = Some t }) q) (sym folder) here,
+          link,
         )
 
-    pub no_plan_goes : (t : Inside) (now : Platter) → Stays sealed signed hashed f g d old.secret moment tree s old.disk t now → s.plan ≡ None
-        → (answer : Result (ℕ × Report) says.SettleFault) × (c' : Chain) × (q : Part) × (answer ≡ Err says.NoPlan) × SettleStep d by c p answer c' q × Grows f g × HasChain sealed signed hashed seed names g c'
-        × DeviceStands sealed signed hashed seed names d g c' (record old { disk = now; inside = Some t }) q
-    no_plan_goes t now stays none = (
+    pub no_plan_goes : (t : Inside) (now : Platter) → Stays sealed signed hashed f g d old.secret moment tree s old.disk t now → s.plan ≡ None → armed' ≡ armed → Gone c p (λ answer. answer ≡ Err says.NoPlan) (record old { disk = now; inside = Some t })
+    no_plan_goes t now stays none same = (
       Err says.NoPlan,
       c,
       p,
@@ -433,6 +473,7 @@ module _ (sealed signed : List ℕ → List ℕ → List ℕ) (hashed : List ℕ
       inl stays.folder,
       has_still stays.folder,
       unchanged t now stays.folder stays.session stays.disk,
+      told_same armed armed' same,
     )
 
   -- the plan's cache took some blocks
@@ -470,74 +511,88 @@ module _ (sealed signed : List ℕ → List ℕ → List ℕ) (hashed : List ℕ
 
   -- ---- the answers
 
-  pub settle_answers : (t : Inside) (now : Platter) (r : Result ℕ SettleFault) → SettleDoes sealed signed hashed f g d old.secret moment tree s old.disk t now r → UnlessStopped r (IsRunning t)
-      → SettleAnswers sealed signed hashed seed names moment f old tree g (member_of old t now r) r
-  settle_answers t now (Ok n) does running = λ c p may.
-      let went = settles_go c p may t now does.number does.asks does.session (subst (λ k. Writes (resolved s.journal k (sha256 does.asks.request.revision)) old.disk now) does.n_is does.disk) running in
-      let told = went.3 in
-      (went.0, went.1, went.2, (told.0, told.1, told.2, told.3, told.4 ∙ ap (λ k. Ok (k, report_of d old.name moment told.0 told.1)) (sym does.n_is)), went.4, went.5, went.6, went.7)
-  settle_answers t now (Err fault.Closed) does running = absurd does
-  settle_answers t now (Err fault.NoPlan) does running = λ c p may. no_plan_goes c p may t now does.0 does.1
-  settle_answers t now (Err fault.Memory) (inr does) running = (
+  -- want of memory leaves what the device stands for
+  stays_on : (t : Inside) (now : Platter) → Stays sealed signed hashed f g d old.secret moment tree s old.disk t now ⊎ Fills sealed signed hashed f g d old.secret moment tree s old.disk t now → IsRunning t
+      → (g ≡ f) × ((c : Chain) (p : Part) → DeviceStands sealed signed hashed seed names d f c old p → DeviceStands sealed signed hashed seed names d f c (record old { disk = now; inside = Some t }) p)
+  stays_on t now (inr does) running = (
     does.folder,
     λ c p h.
         let session = inside_at sealed signed hashed seed names d f c old p s was h in
         stands_with sealed signed hashed seed names d f c old p p now t h (subst (λ (x : Platter). DiskStands f.revisions x p) (sym does.disk) h.disk)
         (subst (λ u. SessionStands sealed signed hashed seed names f c u p) (sym does.session) (filled_session f c p does.plan does.planned does.made does.cache does.takes (subst IsRunning does.session running) session)),
   )
-  settle_answers t now (Err fault.Memory) (inl does) running = (
+  stays_on t now (inl does) running = (
     does.folder,
     λ c p h.
         let session = inside_at sealed signed hashed seed names d f c old p s was h in
         stands_with sealed signed hashed seed names d f c old p p now t h (subst (λ (x : Platter). DiskStands f.revisions x p) (sym does.disk) h.disk) (subst (λ u. SessionStands sealed signed hashed seed names f c u p) (sym does.session) session),
   )
-  settle_answers t now (Err (fault.ByPut refusal)) does running = λ c p may. drops_go c p may t now refusal does running
-  settle_answers t now (Err fault.Stopped) does running = λ c p may. settle_breaks c p may t now does.number does.asks (subst (λ k. Stops s.journal (resolved s.journal (does.asks.plan.number + 1) k) old.disk now) refl does.disk)
+
+  pub settle_answers : (t : Inside) (now : Platter) (r : Result ℕ SettleFault) → SettleDoes sealed signed hashed f g d old.secret moment tree s old.disk t now armed armed' r → UnlessEnded r (IsRunning t)
+      → SettleAnswers sealed signed hashed seed names moment f old tree g (member_of old t now r) armed armed' r
+  settle_answers t now (Ok n) does running = λ c p may.
+      let h = does.0 in
+      let went = settles_go c p may t now h.number h.asks h.session (subst (λ k. Writes (resolved s.journal k (sha256 h.asks.request.revision)) old.disk now) h.n_is h.disk) running does.1 in
+      let told = went.3 in
+      (went.0, went.1, went.2, (told.0, told.1, told.2, told.3, told.4 ∙ ap (λ k. Ok (k, report_of d old.name moment told.0 told.1)) (sym h.n_is)), went.4, went.5, went.6, went.7, went.8)
+  settle_answers t now (Err fault.Closed) does running = absurd does
+  settle_answers t now (Err fault.NoPlan) does running = λ c p may. no_plan_goes c p may t now does.0 does.1 does.2
+  settle_answers t now (Err fault.Memory) does running = (let there = stays_on t now does.0 running in (there.0, there.1, does.1))
+  settle_answers t now (Err fault.LinkFault) (inl does) running = λ c p may. request_goes c p may t now does.0 does.1
+  settle_answers t now (Err fault.LinkFault) (inr does) running = λ c p may. reply_goes c p may t now does.0 does.1
+  settle_answers t now (Err (fault.ByPut refusal)) does running = λ c p may. drops_go c p may t now refusal does.0 running does.1
+  settle_answers t now (Err fault.Stopped) does running = λ c p may. settle_breaks c p may t now does.0.number does.0.asks (subst (λ k. Stops s.journal (resolved s.journal (does.0.asks.plan.number + 1) k) old.disk now) refl does.0.disk) does.1
 
   -- where the session owned its queue, it still does
-  pub settle_owned : (t : Inside) (now : Platter) (r : Result ℕ SettleFault) → SettleDoes sealed signed hashed f g d old.secret moment tree s old.disk t now r → (c : Chain) (p : Part) → MaySettle sealed signed hashed seed names moment f old tree c p → IsOwned d s → UnlessStopped r (IsOwned d t)
+  pub settle_owned : (t : Inside) (now : Platter) (r : Result ℕ SettleFault) → SettleDoes sealed signed hashed f g d old.secret moment tree s old.disk t now armed armed' r → (c : Chain) (p : Part) → MaySettle sealed signed hashed seed names moment f old tree c p → IsOwned d s → UnlessEnded r (IsOwned d t)
   settle_owned t now (Ok n) does c p may owned =
       let gone = drop_all s.journal.queue in
       let none = ap length gone in
       let last : last_seq s.journal ≡ s.journal.base + length s.journal.queue + length (drop (length s.journal.queue) s.journal.queue) = omega (arith, none) in
-      subst (IsOwned d) (sym does.session) (record {
+      subst (IsOwned d) (sym does.0.session) (record {
         own = subst (AreOf d) (sym gone) tt;
-        fresh = subst (λ k. IdsEndAt d k tree) last (merge_fresh c p may t now does.number does.asks);
+        fresh = subst (λ k. IdsEndAt d k tree) last (merge_fresh c p may t now does.0.number does.0.asks);
       })
   settle_owned t now (Err fault.Closed) does c p may owned = absurd does
   settle_owned t now (Err fault.NoPlan) does c p may owned = subst (IsOwned d) (sym does.0.session) owned
-  settle_owned t now (Err fault.Memory) (inl does) c p may owned = subst (IsOwned d) (sym does.session) owned
-  settle_owned t now (Err fault.Memory) (inr does) c p may owned = subst (IsOwned d) (sym does.session) (record { own = owned.own; fresh = owned.fresh })
-  settle_owned t now (Err (fault.ByPut refusal)) does c p may owned = subst (IsOwned d) (sym does.session) (record { own = owned.own; fresh = owned.fresh })
+  settle_owned t now (Err fault.Memory) does c p may owned = still does.0 where
+    still : Stays sealed signed hashed f g d old.secret moment tree s old.disk t now ⊎ Fills sealed signed hashed f g d old.secret moment tree s old.disk t now → IsOwned d t
+    still (inl h) = subst (IsOwned d) (sym h.session) owned
+    still (inr h) = subst (IsOwned d) (sym h.session) (record { own = owned.own; fresh = owned.fresh })
+  settle_owned t now (Err fault.LinkFault) does c p may owned = tt
+  settle_owned t now (Err (fault.ByPut refusal)) does c p may owned = subst (IsOwned d) (sym does.0.session) (record { own = owned.own; fresh = owned.fresh })
   settle_owned t now (Err fault.Stopped) does c p may owned = tt
 
-after_on : (old : Member) (t : Inside) (now : Platter) (r : Result ℕ SettleFault) → is_stopped r ≡ false → member_of old t now r ≡ record old { disk = now; inside = Some t }
+after_on : (old : Member) (t : Inside) (now : Platter) (r : Result ℕ SettleFault) → ends r ≡ false → member_of old t now r ≡ record old { disk = now; inside = Some t }
 after_on old t now (Ok n) on = refl
 after_on old t now (Err fault.Closed) on = refl
 after_on old t now (Err fault.NoPlan) on = refl
 after_on old t now (Err fault.Memory) on = refl
+after_on old t now (Err fault.LinkFault) on = cc
 after_on old t now (Err (fault.ByPut refusal)) on = refl
 after_on old t now (Err fault.Stopped) on = cc
 
-after_stop : (old : Member) (t : Inside) (now : Platter) (r : Result ℕ SettleFault) → is_stopped r ≡ true → member_of old t now r ≡ record old { disk = now; inside = None }
+after_stop : (old : Member) (t : Inside) (now : Platter) (r : Result ℕ SettleFault) → ends r ≡ true → member_of old t now r ≡ record old { disk = now; inside = None }
 after_stop old t now (Ok n) on = cc
 after_stop old t now (Err fault.Closed) on = cc
 after_stop old t now (Err fault.NoPlan) on = cc
 after_stop old t now (Err fault.Memory) on = cc
+after_stop old t now (Err fault.LinkFault) on = refl
 after_stop old t now (Err (fault.ByPut refusal)) on = cc
 after_stop old t now (Err fault.Stopped) on = refl
 
-pub unless : (r : Result ℕ SettleFault) (P : Type 0) → is_stopped r ≡ false → UnlessStopped r P → P
+pub unless : (r : Result ℕ SettleFault) (P : Type 0) → ends r ≡ false → UnlessEnded r P → P
 unless (Ok n) P on h = h
 unless (Err fault.Closed) P on h = h
 unless (Err fault.NoPlan) P on h = h
 unless (Err fault.Memory) P on h = h
+unless (Err fault.LinkFault) P on h = cc
 unless (Err (fault.ByPut refusal)) P on h = h
 unless (Err fault.Stopped) P on h = cc
 
-module _ (sealed signed : List ℕ → List ℕ → List ℕ) (hashed : List ℕ → List ℕ) (seed : List ℕ) (names : Names) (moment : ℕ) (f g : Held) (old : Member) (tree : Tree) where
-  pub closed_settle : g ≡ f → old.inside ≡ None → SettleAnswers sealed signed hashed seed names moment f old tree g old (Err fault.Closed)
-  closed_settle same none = λ c p may. (
+module _ (sealed signed : List ℕ → List ℕ → List ℕ) (hashed : List ℕ → List ℕ) (seed : List ℕ) (names : Names) (moment : ℕ) (f g : Held) (old : Member) (tree : Tree) (armed armed' : Option (Option Side)) where
+  pub closed_settle : g ≡ f → old.inside ≡ None → armed' ≡ armed → SettleAnswers sealed signed hashed seed names moment f old tree g old armed armed' (Err fault.Closed)
+  closed_settle same none link = λ c p may. (
     Err says.SettleFault.Closed,
     c,
     p,
@@ -546,24 +601,25 @@ module _ (sealed signed : List ℕ → List ℕ → List ℕ) (hashed : List ℕ
     inl same,
     subst (λ (k : Held). HasChain sealed signed hashed seed names k c) (sym same) may.has,
     subst (λ (k : Held). DeviceStands sealed signed hashed seed names old.number k c old p) (sym same) may.stands,
+    told_same armed armed' link,
   )
 
   -- a settle of a session of the device with this number and secret, on this disk
   module _ (s t : Inside) (was : old.inside ≡ Some s) (d : ℕ) (secret : List ℕ) (disk now : Platter) (number_is : old.number ≡ d) (secret_is : old.secret ≡ secret) (disk_is : old.disk ≡ disk) (r : Result ℕ SettleFault)
-      (does : SettleDoes sealed signed hashed f g d secret moment tree s disk t now r) where
-    did : SettleDoes sealed signed hashed f g old.number old.secret moment tree s old.disk t now r
-    did = subst (λ n. SettleDoes sealed signed hashed f g n old.secret moment tree s old.disk t now r) (sym number_is) (subst (λ k. SettleDoes sealed signed hashed f g d k moment tree s old.disk t now r) (sym secret_is)
-        (subst (λ (x : Platter). SettleDoes sealed signed hashed f g d secret moment tree s x t now r) (sym disk_is) does))
+      (does : SettleDoes sealed signed hashed f g d secret moment tree s disk t now armed armed' r) where
+    did : SettleDoes sealed signed hashed f g old.number old.secret moment tree s old.disk t now armed armed' r
+    did = subst (λ n. SettleDoes sealed signed hashed f g n old.secret moment tree s old.disk t now armed armed' r) (sym number_is) (subst (λ k. SettleDoes sealed signed hashed f g d k moment tree s old.disk t now armed armed' r) (sym secret_is)
+        (subst (λ (x : Platter). SettleDoes sealed signed hashed f g d secret moment tree s x t now armed armed' r) (sym disk_is) does))
 
     module _ (go : PutsGo sealed signed hashed seed names) (mean : PutsMean sealed signed hashed seed names) (law : SettlesAreFor sealed signed hashed seed names) where
-      gone : UnlessStopped r (IsRunning t) → SettleAnswers sealed signed hashed seed names moment f old tree g (member_of old t now r) r
-      gone running = settle_answers sealed signed hashed seed names moment f g old s was tree go mean law t now r did running
+      gone : UnlessEnded r (IsRunning t) → SettleAnswers sealed signed hashed seed names moment f old tree g (member_of old t now r) armed armed' r
+      gone running = settle_answers sealed signed hashed seed names moment f g old s was tree armed armed' go mean law t now r did running
 
-      pub settles_on : UnlessStopped r (IsRunning t) → is_stopped r ≡ false → SettleAnswers sealed signed hashed seed names moment f old tree g (record old { disk = now; inside = Some t }) r
-      settles_on running on = subst (λ (w : Member). SettleAnswers sealed signed hashed seed names moment f old tree g w r) (after_on old t now r on) (gone running)
+      pub settles_on : UnlessEnded r (IsRunning t) → ends r ≡ false → SettleAnswers sealed signed hashed seed names moment f old tree g (record old { disk = now; inside = Some t }) armed armed' r
+      settles_on running on = subst (λ (w : Member). SettleAnswers sealed signed hashed seed names moment f old tree g w armed armed' r) (after_on old t now r on) (gone running)
 
-      pub settles_stop : UnlessStopped r (IsRunning t) → is_stopped r ≡ true → SettleAnswers sealed signed hashed seed names moment f old tree g (record old { disk = now; inside = None }) r
-      settles_stop running on = subst (λ (w : Member). SettleAnswers sealed signed hashed seed names moment f old tree g w r) (after_stop old t now r on) (gone running)
+      pub settles_stop : UnlessEnded r (IsRunning t) → ends r ≡ true → SettleAnswers sealed signed hashed seed names moment f old tree g (record old { disk = now; inside = None }) armed armed' r
+      settles_stop running on = subst (λ (w : Member). SettleAnswers sealed signed hashed seed names moment f old tree g w armed armed' r) (after_stop old t now r on) (gone running)
 
-      pub settles_owned : (c : Chain) (p : Part) → MaySettle sealed signed hashed seed names moment f old tree c p → IsOwned d s → is_stopped r ≡ false → IsOwned d t
-      settles_owned c p may owned on = unless r (IsOwned d t) on (subst (λ n. UnlessStopped r (IsOwned n t)) number_is (settle_owned sealed signed hashed seed names moment f g old s was tree go mean law t now r did c p may (subst (λ n. IsOwned n s) (sym number_is) owned)))
+      pub settles_owned : (c : Chain) (p : Part) → MaySettle sealed signed hashed seed names moment f old tree c p → IsOwned d s → ends r ≡ false → IsOwned d t
+      settles_owned c p may owned on = unless r (IsOwned d t) on (subst (λ n. UnlessEnded r (IsOwned n t)) number_is (settle_owned sealed signed hashed seed names moment f g old s was tree armed armed' go mean law t now r did c p may (subst (λ n. IsOwned n s) (sym number_is) owned)))

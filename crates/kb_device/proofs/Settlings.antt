@@ -10,13 +10,14 @@ use Rattle.kb_ops.specs.Trees.{Tree, look, fold_ops, FitAll}
 use Rattle.kb_snap.specs.Pointers.{Kept, AllHold}
 use Rattle.kb_device.specs.Inside.{Plan, Inside, IsRunning}
 use Rattle.kb_device.specs.Left.{LeavesSame}
+use Rattle.kb_device.specs.Links.{Answers}
 use Rattle.sha2.specs.Sha256.{sha256}
 use Rattle.kb_keys.specs.Policies.{role_at}
 use Rattle.kb_snap.specs.Builds.{OnceAllStored}
 use Rattle.kb_chain.specs.declared.states.FolderRequest.{FolderRequest}
 use Rattle.kb_chain.specs.declared.states.PutRefusal.{PutRefusal}
 use Rattle.kb_device.specs.Journals.{plain}
-use Rattle.kb_folder.specs.Puts.{Held, Puts}
+use Rattle.kb_folder.specs.Puts.{Held}
 use Rattle.kb_device.specs.Merging.{Branch, IsMergeRequest}
 use Rattle.kb_device.specs.SettlesFor.{branch_at}
 use Rattle.kb_device.specs.Noting.{Writes, Stops}
@@ -126,7 +127,7 @@ asked sealed signed hashed d secret key moment s x t request pointers left b key
 
 -- it was put
 abbrev pub asks_by : (sealed signed : List ℕ → List ℕ → List ℕ) (hashed : List ℕ → List ℕ) (f g : Held) (d : ℕ) (secret : List ℕ) (moment : ℕ) (tree : Tree) (s : Inside) (was : Platter) (t : Inside) (now : Platter) (o : Option Plan) (x : Plan) (request : FolderRequest) (pointers : Kept) (cache : Cache) (answer : Result ℕ PutRefusal)
-    → s.plan ≡ Some x → IsAsked sealed signed hashed d secret moment (record s { plan = o }) x tree request pointers → Takes hashed x.cache request.blocks cache → Puts signed hashed f request g answer → Asks sealed signed hashed f g d secret moment tree s was t now answer
+    → s.plan ≡ Some x → IsAsked sealed signed hashed d secret moment (record s { plan = o }) x tree request pointers → Takes hashed x.cache request.blocks cache → Answers signed hashed f request g answer → Asks sealed signed hashed f g d secret moment tree s was t now answer
 asks_by sealed signed hashed f g d secret moment tree s was t now o x request pointers cache answer planned a takes put = record {
   plan = x;
   planned = planned;

@@ -39,6 +39,7 @@ pub mod Remembering
 pub mod Stepping
 pub mod Resolving
 pub mod Lending
+pub mod Links
 pub mod Behind
 pub mod Caches
 pub mod Patching

@@ -1,5 +1,6 @@
--- A settle of a device, as the machine's.
-use Rattle.std.specs.Prelude.{◌≡◌, ℕ, List, Some, Result, Ok, Err}
+-- A settle of a device over a link, as the machine's.
+use Rattle.std.specs.Prelude.{◌≡◌, ℕ, List, Option, Some, Result, Ok, Err}
+use Rattle.kb_edge.specs.declared.link.Side.{Side}
 use Rattle.kb_ops.specs.Trees.{Tree}
 use Rattle.kb_rules.specs.declared.report.Report.{Report}
 use Rattle.kb_chain.specs.declared.states.PutRefusal.{PutRefusal}
@@ -15,6 +16,7 @@ use Rattle.kb_device.specs.Meets.{PartMeets}
 use Rattle.kb_device.specs.Parts.{Merger, IsMerger, Part, HasPlan, SettleStep, tree_shown}
 use Rattle.kb_device.specs.Fresh.{IsOwned}
 use Rattle.kb_device.specs.Inside.{Plan, Inside}
+use Rattle.kb_device.specs.Links.{WhereTold, Spares, LinkAfter}
 use Rattle.kb_device.specs.Settling.{IsMergeOf, report_of}
 use Rattle.kb_device.specs.Stands.{Member, DeviceStands}
 use Rattle.kb_device.specs.declared.settled.SettleFault.{SettleFault}
@@ -36,25 +38,28 @@ module _ (sealed signed : List ℕ → List ℕ → List ℕ) (hashed : List ℕ
     pub few : (j : Journal) (n : ℕ) → HasPlan p j n → AreFew (tree_at c n) (tree_shown p j)
     pub merges : (s : Inside) (x : Plan) → old.inside ≡ Some s → s.plan ≡ Some x → IsMergeOf old.number old.name moment s x tree
 
-  module _ (g : Held) (new : Member) where
+  -- what is armed of the link, where it tells that, before and after
+  module _ (g : Held) (new : Member) (armed armed' : Option (Option Side)) where
     -- the machine's settle that tells this
     abbrev pub SettleGoes : (Result (ℕ × Report) says.SettleFault → Type 0) → Type 0
     SettleGoes Tells = (c : Chain) (p : Part) → MaySettle c p
         → (answer : Result (ℕ × Report) says.SettleFault) × (c' : Chain) × (q : Part) × Tells answer × SettleStep old.number (merger_of old moment) c p answer c' q × Grows f g × HasChain sealed signed hashed seed names g c'
-        × DeviceStands sealed signed hashed seed names old.number g c' new q
+        × DeviceStands sealed signed hashed seed names old.number g c' new q × WhereTold armed armed' (λ was is. LinkAfter was answer is)
 
-    -- the machine's answer: the number, with the report of the plan's merge
+    -- the machine's answer: the number, with the report of the plan's merge, and with a lost reply what the folder answered
     abbrev pub Tells : Result ℕ SettleFault → Result (ℕ × Report) says.SettleFault → Type 0
     Tells (Ok n) answer = (s : Inside) × (x : Plan) × (old.inside ≡ Some s) × (s.plan ≡ Some x) × (answer ≡ Ok (n, report_of old.number old.name moment s x))
     Tells (Err fault.Closed) answer = answer ≡ Err says.SettleFault.Closed
     Tells (Err fault.NoPlan) answer = answer ≡ Err says.NoPlan
     Tells (Err fault.Memory) answer = ⊥
+    Tells (Err fault.LinkFault) answer = (lost : Option (Result ℕ PutFault)) × (answer ≡ Err (says.LinkFault lost))
     Tells (Err (fault.ByPut refusal)) answer = (why : PutFault) × (let r : Result ℕ PutRefusal = Err refusal in Means r (Err why)) × (answer ≡ Err (says.SettleFault.ByPut why))
     Tells (Err fault.Stopped) answer = answer ≡ Err says.SettleFault.Stopped
 
-    -- What a settle that gives this answer is in the machine. Want of memory changes neither the folder nor what the device stands for.
+    -- What a settle that gives this answer is in the machine. Want of memory changes neither the folder, nor what the device stands
+    -- for, nor the side that is armed.
     abbrev pub SettleAnswers : Result ℕ SettleFault → Type 0
-    SettleAnswers (Err fault.Memory) = (g ≡ f) × ((c : Chain) (p : Part) → DeviceStands sealed signed hashed seed names old.number f c old p → DeviceStands sealed signed hashed seed names old.number f c new p)
+    SettleAnswers (Err fault.Memory) = (g ≡ f) × ((c : Chain) (p : Part) → DeviceStands sealed signed hashed seed names old.number f c old p → DeviceStands sealed signed hashed seed names old.number f c new p) × Spares armed armed'
     SettleAnswers r = SettleGoes (Tells r)
 
     -- where the device's session owned its queue, it still does

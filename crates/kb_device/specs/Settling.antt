@@ -1,6 +1,8 @@
--- How a branch is resolved.
+-- How a branch is resolved over a link.
 use Rattle.std.specs.Prelude.{◌≡◌, ◌⊎◌, ℕ, ◌+◌, ◌≤◌, ◌<◌, ◌&&◌, nat_le, nat_lt, is_some, IsSome, Bool, true, false, List, length, Option, Some, None, Result, Ok, Err}
 use Rattle.sha2.specs.Sha256.{sha256}
+use Rattle.kb_edge.specs.declared.link.Side.{Side}
+use Rattle.kb_edge.specs.declared.link.Side.TheVariants.{Request, Reply}
 use Rattle.kb_ops.specs.Trees.{Tree, look}
 use Rattle.kb_keys.specs.declared.policy.Role.{Role}
 use Rattle.kb_keys.specs.Policies.{role_at}
@@ -19,7 +21,8 @@ use Rattle.kb_snap.specs.Chains.{merged_tree, stamp_of}
 use Rattle.kb_device.specs.Caches.{Cache, Takes}
 use Rattle.kb_device.specs.Journals.{plain}
 use Rattle.kb_device.specs.Left.{LeavesSame}
-use Rattle.kb_folder.specs.Puts.{Held, Puts}
+use Rattle.kb_device.specs.Links.{Spares, Carries, Loses, Answers}
+use Rattle.kb_folder.specs.Puts.{Held}
 use Rattle.kb_device.specs.Merging.{merge_plain, IsMergeRequest}
 use Rattle.kb_device.specs.SettlesFor.{branch_at}
 use Rattle.kb_device.specs.declared.settled.SettleFault.{SettleFault}
@@ -84,7 +87,7 @@ module _ (sealed signed : List ℕ → List ℕ → List ℕ) (hashed : List ℕ
     pub asked : IsAsked sealed signed hashed d secret moment s plan tree request pointers
     pub cache : Cache
     pub takes : Takes hashed plan.cache request.blocks cache
-    pub put : Puts signed hashed f request g answer
+    pub put : Answers signed hashed f request g answer
 
   -- it landed, and is noted
   pub record Settles (n : ℕ) : Type 0 where
@@ -103,8 +106,20 @@ module _ (sealed signed : List ℕ → List ℕ → List ℕ) (hashed : List ℕ
   -- the folder refused it, and the plan is dropped
   pub record Drops (refusal : PutRefusal) : Type 0 where
     pub asks : Asks (Err refusal)
-    pub other : refusal ≡ why.Memory → ⊥
     pub session : t ≡ record s { plan = None }
+    pub disk : now ≡ was
+
+  -- the request was lost, and nothing was put
+  pub record RequestLost : Type 0 where
+    pub plan : Plan
+    pub planned : s.plan ≡ Some plan
+    pub folder : g ≡ f
+    pub disk : now ≡ was
+
+  -- the folder's reply was lost, and nothing is noted
+  pub record ReplyLost : Type 0 where
+    pub answer : Result ℕ PutRefusal
+    pub asks : Asks answer
     pub disk : now ≡ was
 
   -- nothing changed
@@ -124,19 +139,21 @@ module _ (sealed signed : List ℕ → List ℕ → List ℕ) (hashed : List ℕ
     pub session : t ≡ record s { plan = Some (grown plan cache) }
     pub disk : now ≡ was
 
-  -- what a settle does that gives this answer
-  abbrev pub SettleDoes : Result ℕ SettleFault → Type 0
-  SettleDoes (Ok n) = Settles n
-  SettleDoes (Err fault.Closed) = ⊥
-  SettleDoes (Err fault.NoPlan) = Stays × (s.plan ≡ None)
-  SettleDoes (Err fault.Memory) = Stays ⊎ Fills
-  SettleDoes (Err (fault.ByPut refusal)) = Drops refusal
-  SettleDoes (Err fault.Stopped) = SettleBreaks
+  -- What a settle does that gives this answer, also to the side of its link that is armed, where the link tells that.
+  abbrev pub SettleDoes : Option (Option Side) → Option (Option Side) → Result ℕ SettleFault → Type 0
+  SettleDoes armed armed' (Ok n) = Settles n × Carries armed armed'
+  SettleDoes armed armed' (Err fault.Closed) = ⊥
+  SettleDoes armed armed' (Err fault.NoPlan) = Stays × (s.plan ≡ None) × (armed' ≡ armed)
+  SettleDoes armed armed' (Err fault.Memory) = (Stays ⊎ Fills) × Spares armed armed'
+  SettleDoes armed armed' (Err fault.LinkFault) = (RequestLost × Loses Request armed armed') ⊎ (ReplyLost × Loses Reply armed armed')
+  SettleDoes armed armed' (Err (fault.ByPut refusal)) = Drops refusal × Carries armed armed'
+  SettleDoes armed armed' (Err fault.Stopped) = SettleBreaks × Carries armed armed'
 
--- this holds of the settle, unless the disk stopped
-abbrev pub UnlessStopped : Result ℕ SettleFault → Type 0 → Type 0
-UnlessStopped (Err fault.Stopped) P = Unit {0}
-UnlessStopped r P = P
+-- this holds of the settle, unless it ends the session
+abbrev pub UnlessEnded : Result ℕ SettleFault → Type 0 → Type 0
+UnlessEnded (Err fault.LinkFault) P = Unit {0}
+UnlessEnded (Err fault.Stopped) P = Unit {0}
+UnlessEnded r P = P
 
 -- The plan can be put: it isn't behind the known revision, its key is there, and the branch has so many operations at most.
 pub record CanSettle (s : Inside) (x : Plan) : Type 0 where
@@ -153,7 +170,8 @@ pub record CanSettle (s : Inside) (x : Plan) : Type 0 where
 abbrev pub can_settle : Inside → Plan → Bool
 can_settle s x = nat_le 1 (length s.journal.queue) && (nat_le (length s.journal.queue) 4096 && (nat_le 1 x.number && (nat_le s.journal.known x.number && (nat_lt x.number 4294967295 && (nat_le 1 x.generation && (nat_le x.generation 64 && is_some (key_at x.ring x.generation)))))))
 
--- the disk stopped in the settle
-abbrev pub is_stopped : Result ℕ SettleFault → Bool
-is_stopped (Err fault.Stopped) = true
-is_stopped r = false
+-- the settle ends the session: the link lost something, or the disk stopped
+abbrev pub ends : Result ℕ SettleFault → Bool
+ends (Err fault.LinkFault) = true
+ends (Err fault.Stopped) = true
+ends r = false

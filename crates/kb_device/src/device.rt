@@ -13,9 +13,9 @@ use crate::power::{arm, cut};
 use crate::resting::{fill, has_stopped, has_stopped_pulling, rest};
 use crate::session::Session;
 use crate::settled::SettleFault;
-use crate::settling::has_stopped_settling;
+use crate::settling::ends_session;
 use kb_blocks::BlockHash;
-use kb_edge::{CrashDisk, Disk, Pick};
+use kb_edge::{CrashDisk, Disk, Link, Pick};
 use kb_folder::{Folder, machine_law};
 use kb_name::{DeviceName, Moment};
 use kb_ops::{Request, Show, Shown};
@@ -245,8 +245,10 @@ impl<D: Disk, S: Sealer, H: BlockHash> Device<D, S, H> {
     ghost use Rattle.kb_folder.specs.Chains.{Names};
     ghost use Rattle.kb_folder.specs.Held.{held};
     ghost use Rattle.kb_snap.specs.Chains.{Chain};
-    ghost use Rattle.kb_device.specs.Parts.{Part};
-    ghost use Rattle.kb_device.specs.Devices.{Runs, IsView, GoesOn, HasFailed};
+    ghost use Rattle.kb_edge.specs.Causes.{Rose};
+    ghost use Rattle.kb_device.specs.Parts.{Part, closed};
+    ghost use Rattle.kb_device.specs.Devices.{Runs, IsView, GoesOn, HasFailed, disk_in};
+    ghost use Rattle.kb_device.specs.Forms.{DeviceGoes};
     ghost use Rattle.kb_device.specs.Lending.{LendsBranch};
     ghost use Rattle.kb_device.specs.Resolving.{MaySettle, SettleAnswers};
     ghost use Rattle.kb_device.specs.Stands.{Member};
@@ -262,31 +264,51 @@ impl<D: Disk, S: Sealer, H: BlockHash> Device<D, S, H> {
         session.branch()
     }
 
-    /// Puts the merge of what was fetched, whose tree is the table, and makes it known once the folder took it. Where the disk
-    /// stops then, the session ends, and the merge stays in the folder.
-    pub fn settle(
+    /// Puts the merge of what was fetched over the link and makes it known once the folder took it. The table is the merge's
+    /// tree. Where the link loses the request or the reply, the session ends, and a lost reply hides what the folder answered.
+    /// Where the disk stops once the folder took it, the session ends too. The merge stays in the folder then.
+    pub fn settle<K: Link>(
         &mut self,
         alloc: Global,
+        link: &mut K,
         folder: &mut Folder<S, H>,
         table: Table,
         moment: Moment,
     ) -> Result<u32, SettleFault>
         requires runs { ForSome self.old.session (Runs self.old.number) }
         ensures runs { (v : Member) (seed : List ℕ) (names : Names) (c : Chain) (p : Part) → IsView self.old v → MaySettle S.sealed S.signed H.hashed seed names moment (held folder.old) v table.tree c p → ForSome self.new.session (Runs self.new.number) }
-        ensures goes { (seed : List ℕ) (names : Names) → GoesOn self.old self.new (λ v w. SettleAnswers S.sealed S.signed H.hashed seed names moment (held folder.old) v table.tree (held folder.new) w result) }
+        ensures goes { (seed : List ℕ) (names : Names) → GoesOn self.old self.new (λ v w. SettleAnswers S.sealed S.signed H.hashed seed names moment (held folder.old) v table.tree (held folder.new) w (K.armed link.old) (K.armed link.new) result) }
         ensures rose { result ≡ Err unsettled.Stopped → HasFailed self.old self.new }
+        ensures lost { result ≡ Err unsettled.LinkFault → Rose (K.faults link.old) (K.faults link.new) }
     {
         machine_law::<S, H>();
         settles_law::<S, H>();
         let Some(session) = &mut self.session else {
             return Err(SettleFault::Closed);
         };
-        let settled = session.settle::<S>(alloc, folder, table, self.number, &self.secret, moment);
-        if !has_stopped_settling(&settled) {
+        let settled = session.settle::<S, K>(
+            alloc,
+            link,
+            folder,
+            table,
+            self.number,
+            &self.secret,
+            moment,
+        );
+        if !ends_session(&settled) {
             return settled;
         }
         rest(&mut self.session, &mut self.resting);
         settled
+    }
+
+    /// Ends the session with its flight and its plan.
+    pub fn leave(&mut self)
+        ensures closed { self.new.session ≡ None }
+        ensures disk { disk_in self.new.resting self.new.session ≡ disk_in self.old.resting self.old.session }
+        ensures goes { (seed : List ℕ) (names : Names) → GoesOn self.old self.new (λ v w. DeviceGoes S.sealed S.signed H.hashed seed names v.number v w (λ p q. q ≡ closed p)) }
+    {
+        rest(&mut self.session, &mut self.resting);
     }
 }
 

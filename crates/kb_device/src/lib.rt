@@ -15,6 +15,7 @@ mod heading;
 mod laws;
 mod left_pointers;
 mod lent;
+mod linked;
 mod merge_requests;
 mod merged_pointers;
 mod opened;
@@ -38,6 +39,7 @@ pub use fetched::FetchFault;
 pub use laws::{landing_law, longer_law, plain_ops_law};
 pub use left_pointers::{forget_touched, left_law};
 pub use lent::Branch;
+pub use linked::{CarryFault, has_lost, put_over};
 pub use merge_requests::merge_law;
 pub use part_laws::{
     journals_are_plain, others_keep, part_law, picks_law, return_law, settles_law,

@@ -8,22 +8,22 @@ ghost use Rattle.kb_journal.specs.State.{allows};
 ghost use Rattle.kb_journal.specs.declared.entries.Entry.TheVariants as entry;
 ghost use Rattle.kb_keys.specs.Rings.{key_at};
 ghost use Rattle.kb_device.specs.Inside.{IsRunning};
-ghost use Rattle.kb_device.specs.Settling.{is_stopped, IsAsked, SettleDoes, UnlessStopped, resolved, with_merge, CanSettle, can_settle};
+ghost use Rattle.kb_device.specs.Settling.{ends, IsAsked, SettleDoes, UnlessEnded, resolved, with_merge, CanSettle, can_settle};
 ghost use Rattle.kb_device.specs.Noting.{Writes, Stops};
 ghost use Rattle.kb_device.specs.Views.{inside, plan_of, platter};
-ghost use Rattle.kb_chain.specs.declared.states.PutRefusal.TheVariants as why;
 ghost use Rattle.kb_device.specs.declared.settled.SettleFault.TheVariants as stop;
 
 use crate::caching::keep_blocks;
 use crate::head::Goal;
+use crate::linked::{has_lost, put_over};
 use crate::merge_requests::merge_request;
 use crate::merged_pointers::left_by_merge;
 use crate::session::Session;
 use crate::settled::SettleFault;
 use crate::step_requests::StepMade;
 use kb_blocks::{BlockHash, Hash};
-use kb_chain::{FolderRequest, PutRefusal, hash_of};
-use kb_edge::{Disk, Memory, Stopped};
+use kb_chain::{FolderRequest, hash_of};
+use kb_edge::{Disk, Link, Memory, Stopped};
 use kb_folder::Folder;
 use kb_journal::Note;
 use kb_keys::Role;
@@ -34,19 +34,11 @@ use kb_snap::Pointers;
 use kb_tree::Table;
 use std::alloc::Global;
 
-/// Whether the disk stopped in a settle.
-pub fn has_stopped_settling(settled: &Result<u32, SettleFault>) -> bool
-    ensures { result ≡ is_stopped settled.now }
+/// Whether a settle ends the session: the link lost something, or the disk stopped.
+pub fn ends_session(settled: &Result<u32, SettleFault>) -> bool
+    ensures { result ≡ ends settled.now }
 {
-    matches!(settled, Err(SettleFault::Stopped))
-}
-
-// Whether a put was refused for want of memory.
-fn lacks_memory(refusal: &PutRefusal) -> bool
-    ensures lacks { result ≡ true → refusal.now ≡ why.Memory }
-    ensures other { result ≡ false → refusal.now ≡ why.Memory → ⊥ }
-{
-    matches!(refusal, PutRefusal::Memory)
+    matches!(settled, Err(SettleFault::LinkFault | SettleFault::Stopped))
 }
 
 fn copies(alloc: Global, queue: &[Op]) -> Result<Vec<Op>, Memory>
@@ -156,11 +148,14 @@ impl<D: Disk, H: BlockHash> Session<D, H> {
         Ok(number)
     }
 
-    /// Puts the merge of the plan, and makes it known once the folder took it. All memory is taken before the put, also for
-    /// the blocks that the plan's cache takes. A plan that the folder refused is dropped. Once the disk has stopped, the journal has to be opened again.
-    pub fn settle<S: Sealer>(
+    /// Puts the merge of the plan over the link, and makes it known once the folder took it. The device's own memory is taken
+    /// before anything goes over the link, also for the blocks that the plan's cache takes. A plan that the folder refused
+    /// is dropped. Once the link has lost something the session has to end, and once the disk has stopped the journal has to
+    /// be opened again.
+    pub fn settle<S: Sealer, K: Link>(
         &mut self,
         alloc: Global,
+        link: &mut K,
         folder: &mut Folder<S, H>,
         table: Table,
         d: u16,
@@ -170,11 +165,12 @@ impl<D: Disk, H: BlockHash> Session<D, H> {
         requires running { IsRunning (inside self.old) }
         requires opened { self.old.journal.is_open ≡ true }
         requires numbered { 1 ≤ d }
-        ensures does { SettleDoes S.sealed S.signed H.hashed (held folder.old) (held folder.new) d secret.now moment table.tree (inside self.old) (platter D.Disk self.old.journal.disk) (inside self.new) (platter D.Disk self.new.journal.disk) result }
+        ensures does { SettleDoes S.sealed S.signed H.hashed (held folder.old) (held folder.new) d secret.now moment table.tree (inside self.old) (platter D.Disk self.old.journal.disk) (inside self.new) (platter D.Disk self.new.journal.disk) (K.armed link.old) (K.armed link.new) result }
         ensures size { length (D.content self.new.journal.disk) ≡ length (D.content self.old.journal.disk) }
-        ensures running { UnlessStopped result (IsRunning (inside self.new)) }
-        ensures opened { UnlessStopped result (self.new.journal.is_open ≡ true) }
+        ensures running { UnlessEnded result (IsRunning (inside self.new)) }
+        ensures opened { UnlessEnded result (self.new.journal.is_open ≡ true) }
         ensures rose { result ≡ Err stop.Stopped → Rose (D.faults self.old.journal.disk) (D.faults self.new.journal.disk) }
+        ensures lost { result ≡ Err stop.LinkFault → Rose (K.faults link.old) (K.faults link.new) }
     {
         let Some(mut goal) = self.plan.take() else {
             return Err(SettleFault::NoPlan);
@@ -207,15 +203,19 @@ impl<D: Disk, H: BlockHash> Session<D, H> {
             }
         }
         let hash = hash_of(request.revision.as_slice());
-        match folder.put(&request) {
-            Ok(_) => {}
-            Err(refusal) => {
-                if lacks_memory(&refusal) {
-                    self.plan = Some(goal);
-                    return Err(SettleFault::Memory);
+        let answer = match put_over(link, folder, &request) {
+            Ok(answer) => answer,
+            Err(fault) => {
+                if has_lost(fault) {
+                    return Err(SettleFault::LinkFault);
                 }
-                return Err(SettleFault::ByPut(refusal));
+                self.plan = Some(goal);
+                return Err(SettleFault::Memory);
             }
+        };
+        match answer {
+            Ok(_) => {}
+            Err(refusal) => return Err(SettleFault::ByPut(refusal)),
         }
         let role = folder.policy().role(d);
         match self.resolve(goal, table, shown, pointers, hash, role) {

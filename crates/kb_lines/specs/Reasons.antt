@@ -2,7 +2,7 @@
 use Rattle.std.specs.Prelude.{ℕ, List, [], ◌++◌, codes, decimal}
 use Rattle.hex.specs.Hex.{encode_lower}
 use Rattle.kb_lines.specs.declared.reasons.Reason.{Reason}
-use Rattle.kb_lines.specs.declared.reasons.Reason.TheVariants.{Closed, ReadOnly, BadPath, TooDeep, NotFound, NotDir, NotFile, Exists, NotEmpty, Inside, TooBig, TreeFull, Spent, QueueFull, Full, Memory, Stopped, AlreadyOpen, NotMember, BadDisk, Foreign, BadFolder, InFlight, Branched, Idle, NoFlight, Unflushed, NoBranch, NoPlan, BadRevision, NotWriter, BadSignature, Stale, SeqGap, BadFit, ChainEnd, Collision, Known, LastWriter, GenEnd}
+use Rattle.kb_lines.specs.declared.reasons.Reason.TheVariants.{Closed, ReadOnly, BadPath, TooDeep, NotFound, NotDir, NotFile, Exists, NotEmpty, Inside, TooBig, TreeFull, Spent, QueueFull, Full, Memory, Stopped, AlreadyOpen, NotMember, BadDisk, Foreign, BadFolder, InFlight, Branched, Idle, NoFlight, Unflushed, NoBranch, NoPlan, LinkFault, BadRevision, NotWriter, BadSignature, Stale, SeqGap, BadFit, ChainEnd, Collision, Known, LastWriter, GenEnd}
 
 abbrev pub reason_name : Reason → List ℕ
 reason_name Closed = codes "Closed"
@@ -34,6 +34,7 @@ reason_name NoFlight = codes "NoFlight"
 reason_name Unflushed = codes "Unflushed"
 reason_name NoBranch = codes "NoBranch"
 reason_name NoPlan = codes "NoPlan"
+reason_name LinkFault = codes "LinkFault"
 reason_name BadRevision = codes "BadRevision"
 reason_name NotWriter = codes "NotWriter"
 reason_name BadSignature = codes "BadSignature"

@@ -93,6 +93,7 @@ fn reason_name(reason: &Reason) -> &'static str
         Reason::Unflushed => "Unflushed",
         Reason::NoBranch => "NoBranch",
         Reason::NoPlan => "NoPlan",
+        Reason::LinkFault => "LinkFault",
         Reason::BadRevision => "BadRevision",
         Reason::NotWriter => "NotWriter",
         Reason::BadSignature => "BadSignature",

@@ -33,6 +33,8 @@ pub enum Reason {
     Unflushed,
     NoBranch,
     NoPlan,
+    /// The request or the reply was lost.
+    LinkFault,
     BadRevision,
     NotWriter,
     BadSignature,

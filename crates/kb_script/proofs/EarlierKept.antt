@@ -3,7 +3,7 @@ use Rattle.std.proofs.Common.{◌≡◌, ℕ, Bool, List, [], ◌∷◌, ◌++�
 use Rattle.std.specs.List.{list_any}
 use Rattle.std.proofs.lemmas.List.{reverse-append}
 use Rattle.kb_script.specs.declared.statements.Statement.{Statement}
-use Rattle.kb_script.specs.declared.statements.Statement.TheVariants.{Seed, Device, Found, Grant, Revoke, At, Open, Pick, Land, Note, Flush, Drain, Pull, Fetch, Settle, Resolve, Status, Fuse, Power, Folder, Verify, File, Look}
+use Rattle.kb_script.specs.declared.statements.Statement.TheVariants.{Seed, Device, Found, Grant, Revoke, At, Open, Pick, Land, Note, Flush, Drain, Pull, Fetch, Settle, Resolve, Status, Fuse, Lose, Power, Folder, Verify, File, Look}
 use Rattle.kb_script.specs.Fit.{IsFit, AllFit, AllFitFrom, declared_after, found_after}
 use Rattle.kb_script.specs.Seen.{Known}
 use Rattle.kb_script.specs.Earlier.{known_of, after, declared, is_found, AllFitBack}
@@ -27,6 +27,7 @@ known_step earlier (Settle d) = refl
 known_step earlier (Resolve d) = refl
 known_step earlier (Status d) = refl
 known_step earlier (Fuse d n) = refl
+known_step earlier (Lose d side) = refl
 known_step earlier (Power d p) = refl
 known_step earlier Folder = refl
 known_step earlier Verify = refl
@@ -66,6 +67,7 @@ counted (Settle d) earlier = refl
 counted (Resolve d) earlier = refl
 counted (Status d) earlier = refl
 counted (Fuse d n) earlier = refl
+counted (Lose d side) earlier = refl
 counted (Power d p) earlier = refl
 counted Folder earlier = refl
 counted Verify earlier = refl
@@ -91,6 +93,7 @@ founded (Settle d) earlier = refl
 founded (Resolve d) earlier = refl
 founded (Status d) earlier = refl
 founded (Fuse d n) earlier = refl
+founded (Lose d side) earlier = refl
 founded (Power d p) earlier = refl
 founded Folder earlier = refl
 founded Verify earlier = refl

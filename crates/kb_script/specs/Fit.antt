@@ -3,14 +3,14 @@ use Rattle.std.specs.Prelude.{◌≡◌, ℕ, ◌+◌, ◌≤◌, ◌<◌, Bool,
 use Rattle.kb_name.specs.Names.{is_device_name}
 use Rattle.kb_name.specs.Moments.{last_second}
 use Rattle.kb_script.specs.declared.statements.Statement.{Statement}
-use Rattle.kb_script.specs.declared.statements.Statement.TheVariants.{Seed, Device, Found, Grant, Revoke, At, Open, Pick, Land, Note, Flush, Drain, Pull, Fetch, Settle, Resolve, Status, Fuse, Power, Folder, Verify, File, Look}
+use Rattle.kb_script.specs.declared.statements.Statement.TheVariants.{Seed, Device, Found, Grant, Revoke, At, Open, Pick, Land, Note, Flush, Drain, Pull, Fetch, Settle, Resolve, Status, Fuse, Lose, Power, Folder, Verify, File, Look}
 
 -- a device is named by its number, from 1, after it was declared
 abbrev pub IsDeclared : ℕ → ℕ → Type 0
 IsDeclared count device = (1 ≤ device) × (device ≤ count)
 
 -- the seed before all devices; at most 32 devices, each with a disk of 4,096 to 16,777,216 bytes; one `found`; and only
--- behind it what changes the members, opens, changes, shows, takes to the folder or cuts the power
+-- behind it what changes the members, opens, changes, shows, takes to the folder, arms a link or cuts the power
 abbrev pub IsFit : ℕ → Bool → Statement → Type 0
 IsFit count found (Seed seed) = count ≡ 0
 IsFit count found (Device name size) = (count < 32) × (is_device_name name ≡ true) × (4096 ≤ size) × (size ≤ 16777216)
@@ -30,6 +30,7 @@ IsFit count found (Settle device) = (found ≡ true) × IsDeclared count device
 IsFit count found (Resolve device) = (found ≡ true) × IsDeclared count device
 IsFit count found (Status device) = (found ≡ true) × IsDeclared count device
 IsFit count found (Fuse device steps) = IsDeclared count device
+IsFit count found (Lose device side) = (found ≡ true) × IsDeclared count device
 IsFit count found (Power device pick) = (found ≡ true) × IsDeclared count device
 IsFit count found Folder = found ≡ true
 IsFit count found Verify = found ≡ true

@@ -13,7 +13,7 @@ use Rattle.kb_script.specs.declared.verbs.Verb.TheVariants as verb
 use Rattle.kb_script.specs.declared.statements.Statement.{Statement}
 use Rattle.kb_script.specs.declared.statements.Statement.TheVariants as statement
 use Rattle.kb_script.specs.Lines.{word}
-use Rattle.kb_script.specs.Words.{is_number_in, value, is_data, bytes_in, is_seed, seed_in, pick_of, role_of}
+use Rattle.kb_script.specs.Words.{is_number_in, value, is_data, bytes_in, is_seed, seed_in, pick_of, side_of, role_of}
 use Rattle.kb_script.specs.Table.{Want, Number, SeedWord, NewDevice, OldDevice, DataWord, OneOf, forms}
 use Rattle.kb_script.specs.Seen.{Known, is_declared, number_of, may_stand}
 
@@ -73,6 +73,7 @@ said k verb.Settle ws = statement.Settle (number_of k (word ws 1))
 said k verb.Resolve ws = statement.Resolve (number_of k (word ws 1))
 said k verb.Status ws = statement.Status (number_of k (word ws 1))
 said k verb.Fuse ws = statement.Fuse (number_of k (word ws 1)) (value (word ws 2))
+said k verb.Lose ws = statement.Lose (number_of k (word ws 1)) (side_of (word ws 2))
 said k verb.Power ws = statement.Power (number_of k (word ws 1)) (pick_of (word ws 2))
 said k verb.Folder ws = statement.Folder
 said k verb.Verify ws = statement.Verify

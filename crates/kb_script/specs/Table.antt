@@ -4,7 +4,7 @@ use Rattle.std.specs.List.{list_any}
 use Rattle.std.specs.Str.{bytes_eq}
 use Rattle.kb_name.specs.Moments.{last_second}
 use Rattle.kb_script.specs.declared.verbs.Verb.{Verb}
-use Rattle.kb_script.specs.declared.verbs.Verb.TheVariants.{Seed, Device, Found, Grant, Revoke, At, Open, Pick, Land, Note, Flush, Drain, Pull, Fetch, Settle, Resolve, Status, Fuse, Power, Folder, Verify, Mkdir, Mkfile, Link, Remove, Move, Write, Cut, Chmod, Touch, Cat, Ls, Tree, Stat}
+use Rattle.kb_script.specs.declared.verbs.Verb.TheVariants.{Seed, Device, Found, Grant, Revoke, At, Open, Pick, Land, Note, Flush, Drain, Pull, Fetch, Settle, Resolve, Status, Fuse, Lose, Power, Folder, Verify, Mkdir, Mkfile, Link, Remove, Move, Write, Cut, Chmod, Touch, Cat, Ls, Tree, Stat}
 
 abbrev pub spelling : Verb → List ℕ
 spelling Seed = codes "seed"
@@ -25,6 +25,7 @@ spelling Settle = codes "settle"
 spelling Resolve = codes "resolve"
 spelling Status = codes "status"
 spelling Fuse = codes "fuse"
+spelling Lose = codes "lose"
 spelling Power = codes "power"
 spelling Folder = codes "folder"
 spelling Verify = codes "verify"
@@ -43,7 +44,7 @@ spelling Tree = codes "tree"
 spelling Stat = codes "stat"
 
 abbrev pub verbs : List Verb
-verbs = Seed ∷ Device ∷ Found ∷ Grant ∷ Revoke ∷ At ∷ Open ∷ Pick ∷ Land ∷ Note ∷ Flush ∷ Drain ∷ Pull ∷ Fetch ∷ Settle ∷ Resolve ∷ Status ∷ Fuse ∷ Power ∷ Folder ∷ Verify ∷ Mkdir ∷ Mkfile ∷ Link ∷ Remove ∷ Move ∷ Write ∷ Cut ∷ Chmod ∷ Touch ∷ Cat ∷ Ls ∷ Tree ∷ Stat ∷ []
+verbs = Seed ∷ Device ∷ Found ∷ Grant ∷ Revoke ∷ At ∷ Open ∷ Pick ∷ Land ∷ Note ∷ Flush ∷ Drain ∷ Pull ∷ Fetch ∷ Settle ∷ Resolve ∷ Status ∷ Fuse ∷ Lose ∷ Power ∷ Folder ∷ Verify ∷ Mkdir ∷ Mkfile ∷ Link ∷ Remove ∷ Move ∷ Write ∷ Cut ∷ Chmod ∷ Touch ∷ Cat ∷ Ls ∷ Tree ∷ Stat ∷ []
 
 -- the statement that a first word names
 abbrev pub verb_of : List ℕ → Option Verb
@@ -73,6 +74,10 @@ last_u32 = 4294967295
 abbrev pub pick_words : List (List ℕ)
 pick_words = codes "old" ∷ codes "new" ∷ codes "noise" ∷ []
 
+-- what a link loses, by its word
+abbrev pub side_words : List (List ℕ)
+side_words = codes "request" ∷ codes "reply" ∷ []
+
 -- what a grant makes of a device, by its word
 abbrev pub role_words : List (List ℕ)
 role_words = codes "writer" ∷ codes "reader" ∷ []
@@ -97,6 +102,7 @@ forms Settle = (OldDevice ∷ []) ∷ []
 forms Resolve = (OldDevice ∷ []) ∷ []
 forms Status = (OldDevice ∷ []) ∷ []
 forms Fuse = (OldDevice ∷ Number 0 last_u32 ∷ []) ∷ []
+forms Lose = (OldDevice ∷ OneOf side_words ∷ []) ∷ []
 forms Power = (OldDevice ∷ OneOf pick_words ∷ []) ∷ []
 forms Folder = [] ∷ []
 forms Verify = [] ∷ []
@@ -145,6 +151,7 @@ place Fetch = Behind
 place Settle = Behind
 place Resolve = Behind
 place Status = Behind
+place Lose = Behind
 place Power = Behind
 place Folder = Behind
 place Verify = Behind

@@ -9,6 +9,8 @@ use Rattle.hex.specs.Hex.{decode_sized}
 use Rattle.percent_encoding.specs.Percent.{percent_decode}
 use Rattle.kb_edge.specs.declared.disk.Pick.{Pick}
 use Rattle.kb_edge.specs.declared.disk.Pick.TheVariants.{Old, New, Noise}
+use Rattle.kb_edge.specs.declared.link.Side.{Side}
+use Rattle.kb_edge.specs.declared.link.Side.TheVariants.{Request, Reply}
 use Rattle.kb_keys.specs.declared.policy.Role.{Role}
 use Rattle.kb_keys.specs.declared.policy.Role.TheVariants.{Writer, Reader}
 use Rattle.kb_script.specs.declared.faults.Why.{Why}
@@ -44,6 +46,10 @@ seed_in w = result_unwrap_or (decode_sized w 32) []
 -- what a power cut leaves
 abbrev pub pick_of : List ℕ → Pick
 pick_of w = if bytes_eq w (codes "old") then Old else if bytes_eq w (codes "new") then New else Noise
+
+-- what a link loses
+abbrev pub side_of : List ℕ → Side
+side_of w = if bytes_eq w (codes "request") then Request else Reply
 
 -- what a grant makes of a device
 abbrev pub role_of : List ℕ → Role

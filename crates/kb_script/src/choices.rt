@@ -1,12 +1,12 @@
 ghost use Rattle.std.specs.Prelude.{◌≡◌};
 ghost use Rattle.kb_script.specs.Seen.{known};
-ghost use Rattle.kb_script.specs.Choices.{fresh_answer, exec_answer, pick_answer, role_answer};
+ghost use Rattle.kb_script.specs.Choices.{fresh_answer, exec_answer, pick_answer, role_answer, side_answer};
 ghost use Rattle.kb_script.specs.Gives.{GivesLine};
 
 use super::faults::{LineFault, Why};
 use super::standing::is_declared;
 use super::state::Seen;
-use kb_edge::Pick;
+use kb_edge::{Pick, Side};
 use kb_keys::Role;
 use kb_name::{DeviceName, NameFault};
 use std::alloc::Global;
@@ -55,6 +55,17 @@ pub fn role_of(word: &str) -> Result<Role, LineFault>
     match word {
         "writer" => Ok(Role::Writer),
         "reader" => Ok(Role::Reader),
+        _ => Err(LineFault::Bad(Why::Choice)),
+    }
+}
+
+/// What a link loses.
+pub fn side_of(word: &str) -> Result<Side, LineFault>
+    ensures { GivesLine (λ s. s) result (side_answer word.now) }
+{
+    match word {
+        "request" => Ok(Side::Request),
+        "reply" => Ok(Side::Reply),
         _ => Err(LineFault::Bad(Why::Choice)),
     }
 }

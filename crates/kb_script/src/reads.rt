@@ -6,7 +6,7 @@ ghost use Rattle.kb_script.specs.Seen.{known, count_in};
 ghost use Rattle.kb_script.specs.Reasons.{answer};
 ghost use Rattle.kb_script.specs.Gives.{GivesLine};
 
-use super::choices::{fresh, is_exec, left_by, role_of};
+use super::choices::{fresh, is_exec, left_by, role_of, side_of};
 use super::cuts::{count, word};
 use super::faults::{LineFault, Why};
 use super::standing::{device, in_order};
@@ -236,6 +236,19 @@ pub fn fuse(seen: &Seen, words: &[&str]) -> Result<Statement, LineFault>
     let device = device(seen, word(words, 1))?;
     in_order(seen, Verb::Fuse)?;
     Ok(Statement::Fuse { device, steps })
+}
+
+pub fn lose(seen: &Seen, words: &[&str]) -> Result<Statement, LineFault>
+    ensures value { GivesLine (λ s. s) result (answer (known seen.now) Verb.Lose (texts words.now)) }
+    ensures fit { IfOk result (λ s. IsFit (count_in seen.now) seen.now.found s) }
+{
+    if count(words) != 3 {
+        return Err(LineFault::Bad(Why::Count));
+    }
+    let side = side_of(word(words, 2))?;
+    let device = device(seen, word(words, 1))?;
+    in_order(seen, Verb::Lose)?;
+    Ok(Statement::Lose { device, side })
 }
 
 pub fn power(seen: &Seen, words: &[&str]) -> Result<Statement, LineFault>

@@ -44,6 +44,7 @@ fn statement(alloc: Global, seen: &Seen, verb: Verb, words: &[&str]) -> Result<S
         Verb::Resolve => reads::resolve(seen, words),
         Verb::Status => reads::status(seen, words),
         Verb::Fuse => reads::fuse(seen, words),
+        Verb::Lose => reads::lose(seen, words),
         Verb::Power => reads::power(seen, words),
         Verb::Folder => reads::folder(seen, words),
         Verb::Verify => reads::verify(seen, words),

@@ -1,4 +1,4 @@
-use kb_edge::Pick;
+use kb_edge::{Pick, Side};
 use kb_keys::Role;
 use kb_name::{DeviceName, Moment};
 use kb_ops::{Request, Show};
@@ -40,6 +40,8 @@ pub enum Statement {
     Status { device: u16 },
     /// Arms the device's disk: after so many further writes and syncs all fails.
     Fuse { device: u16, steps: u32 },
+    /// Arms the link between the device and the folder: it loses the next request, or the next reply.
+    Lose { device: u16, side: Side },
     /// Cuts the power.
     Power { device: u16, pick: Pick },
     /// Lists the revisions.

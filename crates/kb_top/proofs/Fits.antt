@@ -8,7 +8,7 @@ use Rattle.kb_keys.specs.declared.policy.Role.TheVariants.{Writer, Reader}
 use Rattle.kb_keys.specs.declared.policy.Action.TheVariants as action
 use Rattle.kb_snap.specs.Rekeys.{grant_of}
 use Rattle.kb_script.specs.declared.statements.Statement.{Statement}
-use Rattle.kb_script.specs.declared.statements.Statement.TheVariants.{Seed, Device, Found, Grant, Revoke, At, Open, Pick, Land, Note, Flush, Drain, Pull, Fetch, Settle, Resolve, Status, Fuse, Power, Folder, Verify, File, Look}
+use Rattle.kb_script.specs.declared.statements.Statement.TheVariants.{Seed, Device, Found, Grant, Revoke, At, Open, Pick, Land, Note, Flush, Drain, Pull, Fetch, Settle, Resolve, Status, Fuse, Lose, Power, Folder, Verify, File, Look}
 use Rattle.kb_script.specs.Fit.{IsFit, AllFitFrom, declared_after, found_after}
 use Rattle.kb_world.specs.Statements.{Reply, Act, Turn, On, SetSeed, Declare, DoFound, DoRekey, SetMoment, See, ListChain, AuditChain}
 use Rattle.kb_world.specs.Statements as machine
@@ -150,6 +150,7 @@ module _ (s t : State) (count : ℕ) (found : Bool) (replies : List Reply) (was 
   after (Fuse d steps) fit h =
       let one = once s (On d (machine.Fuse steps)) replies t h in
       (turn_count s t d (machine.Fuse steps) one.reply one.step ∙ was.0, λ no. ap (λ (x : State). x.chain) one.step.state ∙ one.step.step.0 ∙ was.1 no)
+  after (Lose d side) fit h = one_turn d (machine.Lose side) fit.0 h
   after (Power d pick) fit h = one_turn d machine.Power fit.0 h
   after Folder fit h = let one = once s ListChain replies t h in leaves _ one.step.1 refl refl
   after Verify fit h = let one = once s AuditChain replies t h in leaves _ one.step.1 refl refl
@@ -201,6 +202,7 @@ may_stand count true (Fetch d) fit = (fit.1, tt)
 may_stand count true (Settle d) fit = (fit.1, tt)
 may_stand count true (Resolve d) fit = fit.1
 may_stand count true (Status d) fit = fit.1
+may_stand count true (Lose d side) fit = (fit.1, tt)
 may_stand count true (Power d pick) fit = (fit.1, tt)
 may_stand count true Folder fit = tt
 may_stand count true Verify fit = tt

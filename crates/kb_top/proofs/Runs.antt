@@ -13,10 +13,11 @@ use Rattle.kb_world.specs.Statements.{Reply}
 use Rattle.kb_world.specs.Statements as machine
 use Rattle.kb_world.specs.Machine.{State, new_state, Progress, Run, Steps, Ends}
 use Rattle.kb_world.specs.Good.{IsGood}
-use Rattle.kb_world.specs.RunLaws.{ArmsNone}
+use Rattle.kb_world.specs.RunLaws.{ArmsNone, LosesNone}
 use Rattle.kb_world.specs.RunReplies.{Begun}
 use Rattle.kb_world.proofs.Machine.{ends_keep}
 use Rattle.kb_world.proofs.GoodStates.{runs_good, good_owned, shows_known}
+use Rattle.kb_world.proofs.Linked.{unlost}
 use Rattle.kb_world.proofs.Unfused.{unfused}
 use Rattle.kb_world.proofs.Determined.{runs_begin}
 use Rattle.kb_world.proofs.Begins.{scripts_answered}
@@ -114,6 +115,9 @@ part_begun all n statement each mid replies t next run part =
 arms_first : (all : List Statement) (n : ℕ) → All ArmsNone (plain all) → All ArmsNone (plain (take n all))
 arms_first all n none = subst (λ l. All ArmsNone l) (sym (map_take statement_of n all)) (All-take ArmsNone n (plain all) none)
 
+loses_first : (all : List Statement) (n : ℕ) → All LosesNone (plain all) → All LosesNone (plain (take n all))
+loses_first all n none = subst (λ l. All LosesNone l) (sym (map_take statement_of n all)) (All-take LosesNone n (plain all) none)
+
 -- these statements ran, under these names
 pub record HasRun {W : Type 0} (stands : Names → W → State → Type 0) (names : Names) (world : W) (statements : List Statement) : Type 0 where
   pub each : List (List Reply)
@@ -158,6 +162,7 @@ module _ {W : Type 0} (stands : Names → W → State → Type 0) where
         owned = owned_by ran.state (runs_good (plain statements) ran.each ran.state run);
         agree = agree_by ran.state (runs_good (plain statements) ran.each ran.state run);
         unfused = λ none. unfused (plain statements) ran.each ran.state none run;
+        unlost = λ none. unlost (plain statements) ran.each ran.state none run;
         answered = all;
         same = λ plain. (all.are.only ran.each (record { state = ran.state; run = run; plain = plain })).0;
         bytes = bytes;
@@ -186,6 +191,7 @@ module _ {W : Type 0} (stands : Names → W → State → Type 0) where
     owned = ran.owned;
     agree = ran.agree;
     unfused = ran.unfused;
+    unlost = ran.unlost;
     answered = ran.answered;
     same = ran.same;
     bytes = bytes;
@@ -207,6 +213,7 @@ module _ {W : Type 0} (stands : Names → W → State → Type 0) where
     owned = ended.owned;
     agree = ended.agree;
     unfused = ended.unfused;
+    unlost = ended.unlost;
     answered = ended.answered;
     bytes = bytes;
   }
@@ -276,6 +283,7 @@ module _ {W : Type 0} (stands : Names → W → State → Type 0) where
         owned = owned_by moved.0 (runs_good _ _ moved.0 run);
         agree = agree_by moved.0 (runs_good _ _ moved.0 run);
         unfused = λ none. unfused (plain (take (n + 1) statements)) (ran.each ++ moved.1.replies ∷ []) moved.0 (arms_first statements (n + 1) none) run;
+        unlost = λ none. unlost (plain (take (n + 1) statements)) (ran.each ++ moved.1.replies ∷ []) moved.0 (loses_first statements (n + 1) none) run;
         answered = answers statements (ran.each ++ moved.1.replies ∷ []) moved.0 fit (part_begun statements n statement ran.each ran.state moved.1.replies moved.0 next ran.run moved.1.steps.0);
         put = put;
         bytes = Appends-both before held now _ _ was (subst (λ l. Appends held now (take put l)) text bytes);
@@ -299,6 +307,7 @@ module _ {W : Type 0} (stands : Names → W → State → Type 0) where
           owned = owned_by moved.0 (ends_keep ran.state (statement_of statement) moved.0 moved.1 (runs_good _ _ ran.state ran.run));
           agree = agree_by moved.0 (ends_keep ran.state (statement_of statement) moved.0 moved.1 (runs_good _ _ ran.state ran.run));
           unfused = λ none. unfused (plain (take n statements)) ran.each ran.state (arms_first statements n none) ran.run;
+          unlost = λ none. unlost (plain (take n statements)) ran.each ran.state (loses_first statements n none) ran.run;
           answered = answers statements (ran.each ++ moved.1.0 ∷ []) moved.1.1 fit (part_begun statements n statement ran.each ran.state moved.1.0 moved.1.1 next ran.run moved.1.2);
           bytes = was;
         }

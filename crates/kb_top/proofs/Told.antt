@@ -13,7 +13,7 @@ use Rattle.kb_device.specs.Answers as says
 use Rattle.kb_folder.specs.Chains.{Names}
 use Rattle.kb_world.specs.Statements.{LandFault, Reply, Silent, Off, ByRekey, ByCall, ByLook, ByStatus, ByPick, ByLand, ByNote, ByPull, ByFetch, BySettle, ByOpen, ByBackup, ByRestore, ByPast, ByReclaim, Lists, Audited}
 use Rattle.kb_world.specs.Statements as statements
-use Rattle.kb_world.specs.Printed.{printed, all_printed, called_line, shown_line, status_line, picked_line, landed_lines, noted_line, pulled_line, fetched_line, settled_lines, opened_line, rekeyed_line, revision_lines}
+use Rattle.kb_world.specs.Printed.{printed, all_printed, called_line, shown_line, status_line, picked_line, landed_line, noted_line, pulled_line, fetched_line, settled_line, opened_line, rekeyed_line, revision_lines}
 use Rattle.kb_top.specs.Summaries.{names_after, names_given, names_told}
 
 -- ---- no other line than a merge's tells of names
@@ -48,7 +48,7 @@ picked_none n name (Err says.InFlight) = refl
 picked_none n name (Err says.PickFault.Branched) = refl
 picked_none n name (Err says.Idle) = refl
 
-landed_none : (n : ℕ) (name : List ℕ) (answer : Result ℕ LandFault) → fold names_told n (landed_lines name answer) ≡ n
+landed_none : (n : ℕ) (name : List ℕ) (answer : Result ℕ LandFault) → names_told n (landed_line name answer) ≡ n
 landed_none n name (Ok r) = refl
 landed_none n name (Err statements.NoFlight) = refl
 landed_none n name (Err (statements.ByFolder why)) = refl
@@ -75,7 +75,7 @@ fetched_none n name (Err says.FetchFault.Closed) = refl
 fetched_none n name (Err says.FetchFault.NotMember) = refl
 fetched_none n name (Err says.NoBranch) = refl
 
-settled_names : (n : ℕ) (name : List ℕ) (answer : Result (ℕ × Report) SettleFault) → fold names_told n (settled_lines name answer) ≡ names_after n (BySettle answer)
+settled_names : (n : ℕ) (name : List ℕ) (answer : Result (ℕ × Report) SettleFault) → names_told n (settled_line name answer) ≡ names_after n (BySettle answer)
 settled_names n name (Ok merged) = refl
 settled_names n name (Err says.SettleFault.Closed) = refl
 settled_names n name (Err says.NoPlan) = refl

@@ -8,7 +8,7 @@ use Rattle.kb_script.specs.declared.faults.ScriptFault.{ScriptFault}
 use Rattle.kb_script.specs.Scripts.{IsScript}
 use Rattle.kb_world.specs.Statements.{Reply}
 use Rattle.kb_world.specs.Machine.{State, new_state, Run, Steps, Ends}
-use Rattle.kb_world.specs.RunLaws.{ArmsNone, TellsNoStop, IsPlain}
+use Rattle.kb_world.specs.RunLaws.{ArmsNone, TellsNoStop, LosesNone, TellsNoLoss, IsPlain}
 use Rattle.kb_folder.specs.Chains.{Names}
 use Rattle.kb_world.specs.Spoken.{statement_of}
 use Rattle.kb_gen.specs.Generated.{generated}
@@ -40,6 +40,7 @@ module _ {W : Type 0} (stands : Names → W → State → Type 0) (world : W) (b
     pub owned : AllOwned state
     pub agree : AllAgree state
     pub unfused : All ArmsNone (plain statements) → All (All TellsNoStop) each
+    pub unlost : All LosesNone (plain statements) → All (All TellsNoLoss) each
     pub answered : IsAnswered (plain statements) each
     pub same : All (All IsPlain) each → each ≡ answered.all
     pub bytes : Appends before now (written state each)
@@ -59,6 +60,7 @@ module _ {W : Type 0} (stands : Names → W → State → Type 0) (world : W) (b
     pub owned : AllOwned state
     pub agree : AllAgree state
     pub unfused : All ArmsNone (plain statements) → All (All TellsNoStop) each
+    pub unlost : All LosesNone (plain statements) → All (All TellsNoLoss) each
     pub answered : IsAnswered (plain statements) (each ++ ended.0 ∷ [])
     pub bytes : Appends before now (written (take count statements) each)
 
@@ -85,6 +87,7 @@ module _ {W : Type 0} (stands : Names → W → State → Type 0) (world : W) (b
     pub owned : AllOwned state
     pub agree : AllAgree state
     pub unfused : All ArmsNone (plain statements) → All (All TellsNoStop) (each ++ replies ∷ [])
+    pub unlost : All LosesNone (plain statements) → All (All TellsNoLoss) (each ++ replies ∷ [])
     pub answered : IsAnswered (plain statements) (each ++ replies ∷ [])
     pub put : ℕ
     pub bytes : Appends before now (text_of_each (names_in statements) (take count statements) each ++ take put (text_of_replies (names_in statements) statement replies))

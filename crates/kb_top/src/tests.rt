@@ -88,31 +88,40 @@ fn too_much_is_told(rt: HostRuntime) -> Result<(), Fail> {
     Ok(())
 }
 
-#[test]
-fn a_source_fails(rt: HostRuntime) -> Result<(), Fail> {
-    let alloc = rt.alloc();
+// Whether a run whose source fails at this call, from 1, puts nothing and says so.
+fn fails_reading(alloc: Global, call: u32) -> Result<bool, Fail> {
     let bytes = FIRST.as_bytes().to_vec(alloc)?;
-    let mut source = MemSource::new(bytes, 7, [1].to_vec(alloc)?);
+    let mut source = MemSource::new(bytes, 7, [call].to_vec(alloc)?);
     let mut sink = sink(alloc)?;
     let mut world = World::new(alloc, Rack);
     let ended = run_script(alloc, &mut source, &mut sink, &mut world);
-    assert_eq!(rt; ended.code(), 4);
-    assert!(rt; sink.bytes().is_empty());
+    Ok(ended.code() == 4 && sink.bytes().is_empty())
+}
+
+// Whether a run whose sink fails at this call, from 1, puts a beginning of its text and says so.
+fn fails_putting(alloc: Global, call: u32) -> Result<bool, Fail> {
+    let mut source = source(alloc, FIRST)?;
+    let Ok(mut sink) = MemSink::new(alloc, 65_536, [call].to_vec(alloc)?) else {
+        return Err(Fail::from("no memory for a sink"));
+    };
+    let mut world = World::new(alloc, Rack);
+    let ended = run_script(alloc, &mut source, &mut sink, &mut world);
+    Ok(ended.code() == 5 && FIRST_TEXT.as_bytes().starts_with(sink.bytes()))
+}
+
+#[test]
+fn a_source_fails_at_each_call(rt: HostRuntime) -> Result<(), Fail> {
+    for call in 1..16u32 {
+        assert!(rt; fails_reading(rt.alloc(), call)?);
+    }
     Ok(())
 }
 
 #[test]
-fn a_sink_fails(rt: HostRuntime) -> Result<(), Fail> {
-    let alloc = rt.alloc();
-    let mut source = source(alloc, FIRST)?;
-    let mut sink = match MemSink::new(alloc, 65_536, [1].to_vec(alloc)?) {
-        Ok(sink) => sink,
-        Err(_) => return Err(Fail::from("no memory for a sink")),
-    };
-    let mut world = World::new(alloc, Rack);
-    let ended = run_script(alloc, &mut source, &mut sink, &mut world);
-    assert_eq!(rt; ended.code(), 5);
-    assert!(rt; sink.bytes().is_empty());
+fn a_sink_fails_at_each_call(rt: HostRuntime) -> Result<(), Fail> {
+    for call in 1..8u32 {
+        assert!(rt; fails_putting(rt.alloc(), call)?);
+    }
     Ok(())
 }
 

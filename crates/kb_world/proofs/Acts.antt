@@ -2,6 +2,7 @@
 use Rattle.std.proofs.Common.{◌≡◌, ◌⊎◌, ℕ, ◌+◌, ◌-◌, ◌≤◌, true, false, List, [], ◌∷◌, length, Option, Some, None, Result, Ok, Err, inl, inr, refl, sym, ap, ◌∙◌, subst, arith}
 use Rattle.std.specs.Prelude.{slice_get, slice_set}
 use Rattle.kb_edge.specs.declared.disk.Disk.{Ghosts}
+use Rattle.kb_edge.specs.declared.link.Side.{Side}
 use Rattle.kb_ops.specs.declared.requests.Request.{Request}
 use Rattle.kb_ops.specs.declared.requests.Show.{Show}
 use Rattle.kb_ops.specs.declared.requests.Shown.{Shown}
@@ -183,6 +184,10 @@ module _ {M D : Type 0} {disks : Ghosts D} (w v : World M D disks) (d : ℕ) (x 
   pub arms_device : (steps : ℕ) → Turned (held w.folder) x y (λ k c m n. n ≡ record m { part = armed steps m.part }) → GoesOn w v (λ names s t. ActStep s (On d (statements.Fuse steps)) Silent t)
   arms_device steps goes = λ names s h.
       takes_turn w v names d x y numbered found devices seed moment folder (λ k c m n. n ≡ record m { part = armed steps m.part }) goes s (statements.Fuse steps) Silent h (λ m n is. (refl, refl, is))
+
+  pub loses_device : (side : Side) → Turned (held w.folder) x y (λ k c m n. n ≡ record m { link = Some side }) → GoesOn w v (λ names s t. ActStep s (On d (statements.Lose side)) Silent t)
+  loses_device side goes = λ names s h.
+      takes_turn w v names d x y numbered found devices seed moment folder (λ k c m n. n ≡ record m { link = Some side }) goes s (statements.Lose side) Silent h (λ m n is. (refl, refl, is))
 
   pub cuts_device : (l : Line) → l ≡ line.Off x.name → Turned (held w.folder) x y (λ k c m n. n ≡ went m (powered m.part)) → GoesOn w v (λ names s t. Tells names d s (On d statements.Power) l (λ reply. Unit {0}) t)
   cuts_device l is goes = λ names s h.

@@ -34,6 +34,7 @@ use Rattle.kb_device.specs.Settling.{stamp_in, IsMergeOf, report_of}
 use Rattle.kb_device.specs.Resolving.{merger_of, MaySettle, SettleGoes, SettleAnswers}
 use Rattle.kb_device.specs.Fetching.{FetchGoes, FetchAnswers}
 use Rattle.kb_device.specs.Lending.{Lends, LendsBranch}
+use Rattle.kb_device.specs.Links.{LinkAfter}
 use Rattle.kb_device.specs.Telling.{Tells}
 use Rattle.kb_device.specs.declared.called.Status.{Status}
 use Rattle.kb_device.specs.declared.lent.Branch.{Branch}
@@ -165,10 +166,10 @@ module _ {D S H : Type 0} {disks : Ghosts D} {sealers : Seals S} {hashes : Hashe
 
         -- the machine's step
         went_by : (r : Result (ℕ × Report) SettleFault) (told : Result (ℕ × Report) says.SettleFault) (c' : Chain) (q : Part) → IsSettling r told → SettleStep v.number (merger_of v moment) c m.part told c' q → Grows f g → HasChain sealers.sealed sealers.signed hashes.hashed seed names g c'
-            → DeviceStands sealers.sealed sealers.signed hashes.hashed seed names v.number g c' w q
+            → DeviceStands sealers.sealed sealers.signed hashes.hashed seed names v.number g c' w q → LinkAfter x.link.armed told y.link.armed
             → (n : Member) × (e : Chain) × ((answer : Result (ℕ × Report) says.SettleFault) × IsSettling r answer × SettledBy moment d c answer m n e) × HasChain sealers.sealed sealers.signed hashes.hashed seed names g e × Grows f g × DeclaredStands seed names d g e y n
-        went_by r told c' q settling step grows has stands = (
-          record (went m q) { link = None },
+        went_by r told c' q settling step grows has stands after = (
+          record (went m q) { link = y.link.armed },
           c',
           (
             told,
@@ -176,6 +177,8 @@ module _ {D S H : Type 0} {disks : Ghosts D} {sealers : Seals S} {hashes : Hashe
             record {
               part = q;
               step = subst (λ n. SettleStep d (record { name = n; moment = moment; rule = 1 }) c m.part told c' q) its_name (subst (λ k. SettleStep k (merger_of v moment) c m.part told c' q) number step);
+              link = y.link.armed;
+              after = subst (λ k. LinkAfter k told y.link.armed) (sym h.link) after;
               member = refl;
             },
           ),
@@ -194,18 +197,19 @@ module _ {D S H : Type 0} {disks : Ghosts D} {sealers : Seals S} {hashes : Hashe
           },
         )
 
-        pub settles : (r : Result ℕ SettleFault) → SettleAnswers sealers.sealed sealers.signed hashes.hashed seed names moment f v tree g w r → Goes (with_report did r)
+        pub settles : (r : Result ℕ SettleFault) → SettleAnswers sealers.sealed sealers.signed hashes.hashed seed names moment f v tree g w (Some x.link.armed) (Some y.link.armed) r → Goes (with_report did r)
         settles (Ok n) goes =
             let to = goes c m.part may in
             let told = to.3 in
             let same : s ≡ told.0 = session_of s told.0 (sym inside ∙ told.2) in
             let once : p ≡ told.1 = plan_once s p told.1 planned (ap (λ (u : Inside). u.plan) same ∙ told.3) in
             let did_is : report_of v.number v.name moment told.0 told.1 ≡ did = (λ i. report_of v.number v.name moment (sym same i) (sym once i)) ∙ sym did_so in
-            went_by (Ok (n, did)) to.0 to.1 to.2 (told.4 ∙ ap (λ k. Ok (n, k)) did_is) to.4 to.5 to.6 to.7
-        settles (Err settle.Closed) goes = let to = goes c m.part may in went_by (Err settle.Closed) to.0 to.1 to.2 to.3 to.4 to.5 to.6 to.7
-        settles (Err settle.NoPlan) goes = let to = goes c m.part may in went_by (Err settle.NoPlan) to.0 to.1 to.2 to.3 to.4 to.5 to.6 to.7
-        settles (Err (settle.ByPut refusal)) goes = let to = goes c m.part may in went_by (Err (settle.ByPut refusal)) to.0 to.1 to.2 to.3 to.4 to.5 to.6 to.7
-        settles (Err settle.Stopped) goes = let to = goes c m.part may in went_by (Err settle.Stopped) to.0 to.1 to.2 to.3 to.4 to.5 to.6 to.7
+            went_by (Ok (n, did)) to.0 to.1 to.2 (told.4 ∙ ap (λ k. Ok (n, k)) did_is) to.4 to.5 to.6 to.7 to.8
+        settles (Err settle.Closed) goes = let to = goes c m.part may in went_by (Err settle.Closed) to.0 to.1 to.2 to.3 to.4 to.5 to.6 to.7 to.8
+        settles (Err settle.NoPlan) goes = let to = goes c m.part may in went_by (Err settle.NoPlan) to.0 to.1 to.2 to.3 to.4 to.5 to.6 to.7 to.8
+        settles (Err settle.LinkFault) goes = let to = goes c m.part may in went_by (Err settle.LinkFault) to.0 to.1 to.2 to.3 to.4 to.5 to.6 to.7 to.8
+        settles (Err (settle.ByPut refusal)) goes = let to = goes c m.part may in went_by (Err (settle.ByPut refusal)) to.0 to.1 to.2 to.3 to.4 to.5 to.6 to.7 to.8
+        settles (Err settle.Stopped) goes = let to = goes c m.part may in went_by (Err settle.Stopped) to.0 to.1 to.2 to.3 to.4 to.5 to.6 to.7 to.8
         settles (Err settle.Memory) goes =
             let stays = subst (λ k. (e : Chain) (q : Part) → DeviceStands sealers.sealed sealers.signed hashes.hashed seed names k f e v q → DeviceStands sealers.sealed sealers.signed hashes.hashed seed names k f e w q) number goes.1 in (
               m,
@@ -221,7 +225,7 @@ module _ {D S H : Type 0} {disks : Ghosts D} {sealers : Seals S} {hashes : Hashe
                 runs = runs;
                 part = subst (λ (k : Held). DeviceStands sealers.sealed sealers.signed hashes.hashed seed names d k c w m.part) (sym goes.0) (stays c m.part h.part);
                 waits = subst (λ u. WaitsFor sealers.sealed sealers.signed hashes.hashed seed names g w y.waiting u) (sym nothing) (waits_so c false);
-                link = h.link;
+                link = h.link ∙ sym goes.2;
                 batch = h.batch;
               },
             )
@@ -229,7 +233,7 @@ module _ {D S H : Type 0} {disks : Ghosts D} {sealers : Seals S} {hashes : Hashe
   -- ---- nothing was fetched
 
   module _ (same : y ≡ x) (folder : g ≡ f) where
-    here : (n : Member) → n.part ≡ m.part → n.waiting ≡ m.waiting → n.name ≡ m.name → n.link ≡ None → n.batch ≡ m.batch → DeclaredStands seed names d g c y n
+    here : (n : Member) → n.part ≡ m.part → n.waiting ≡ m.waiting → n.name ≡ m.name → n.link ≡ m.link → n.batch ≡ m.batch → DeclaredStands seed names d g c y n
     here n part waiting name link batch =
         subst (λ z. DeclaredStands seed names d g c z n) (sym same) (subst (λ (k : Held). DeclaredStands seed names d k c x n) (sym folder) (record {
           name = h.name;
@@ -239,32 +243,33 @@ module _ {D S H : Type 0} {disks : Ghosts D} {sealers : Seals S} {hashes : Hashe
           runs = h.runs;
           part = subst (λ q. DeviceStands sealers.sealed sealers.signed hashes.hashed seed names d f c v q) (sym part) h.part;
           waits = subst (λ u. WaitsFor sealers.sealed sealers.signed hashes.hashed seed names f v x.waiting u) (sym waiting) h.waits;
-          link = link;
+          link = link ∙ h.link;
           batch = batch ∙ h.batch;
         }))
 
     has_still : HasChain sealers.sealed sealers.signed hashes.hashed seed names g c
     has_still = subst (λ (k : Held). HasChain sealers.sealed sealers.signed hashes.hashed seed names k c) (sym folder) chain
 
-    refused : (told : Result (ℕ × Report) says.SettleFault) → SettleStep d by c m.part told c m.part → (r : Result (ℕ × Report) SettleFault) → IsSettling r told
+    refused : (told : Result (ℕ × Report) says.SettleFault) → SettleStep d by c m.part told c m.part → LinkAfter m.link told m.link → (r : Result (ℕ × Report) SettleFault) → IsSettling r told
         → (n : Member) × (e : Chain) × ((answer : Result (ℕ × Report) says.SettleFault) × IsSettling r answer × SettledBy moment d c answer m n e) × HasChain sealers.sealed sealers.signed hashes.hashed seed names g e × Grows f g × DeclaredStands seed names d g e y n
-    refused told step r settling =
-        let n : Member = record (went m m.part) { link = None } in
-        (n, c, (told, settling, record { part = m.part; step = step; member = refl }), has_still, inl folder, here n refl (waiting_open d c m.name m.part m.waiting meets.waiting) refl refl refl)
+    refused told step after r settling =
+        let n : Member = record (went m m.part) { link = m.link } in
+        (n, c, (told, settling, record { part = m.part; step = step; link = m.link; after = after; member = refl }), has_still, inl folder, here n refl (waiting_open d c m.name m.part m.waiting meets.waiting) refl refl refl)
 
     pub unresolved : (fault : SettleFault) → (let r : Result Resolution SettleFault = Err fault in Resolved d x.name moment v.inside r) → Goes (Err fault)
-    unresolved settle.Closed none = refused (Err says.SettleFault.Closed) (refl, refl, closed_at sealers.sealed sealers.signed hashes.hashed seed names d f c v m.part none h.part) (Err settle.Closed) refl
+    unresolved settle.Closed none = refused (Err says.SettleFault.Closed) (refl, refl, closed_at sealers.sealed sealers.signed hashes.hashed seed names d f c v m.part none h.part) refl (Err settle.Closed) refl
     unresolved settle.NoPlan none =
         let session = inside_at sealers.sealed sealers.signed hashes.hashed seed names d f c v m.part none.0 none.1 h.part in
-        refused (Err says.NoPlan) (refl, refl, session.at.session, session.plan ∙ ap (option_map (λ (q : Plan). q.number)) none.2) (Err settle.NoPlan) refl
-    unresolved settle.Memory none = (m, c, (refl, refl), has_still, inl folder, here m refl refl refl h.link refl)
+        refused (Err says.NoPlan) (refl, refl, session.at.session, session.plan ∙ ap (option_map (λ (q : Plan). q.number)) none.2) refl (Err settle.NoPlan) refl
+    unresolved settle.Memory none = (m, c, (refl, refl), has_still, inl folder, here m refl refl refl refl refl)
+    unresolved settle.LinkFault none = absurd none
     unresolved (settle.ByPut refusal) none = absurd none
     unresolved settle.Stopped none = absurd none
 
 -- ---- fetches
 
 module _ {D S H : Type 0} {disks : Ghosts D} {sealers : Seals S} {hashes : Hashes H} (seed : List ℕ) (names : Names) (d : ℕ) (f : Held) (c : Chain) (x y : Declared D S H disks sealers hashes) (m : Member) (meets : MemberMeets d c m) (chain : HasChain sealers.sealed sealers.signed hashes.hashed seed names f c)
-    (h : DeclaredStands seed names d f c x m) (named : y.name ≡ x.name) (runs : ForSome y.device.session (Runs y.device.number)) (waiting : y.waiting ≡ x.waiting) (w : inner.Member) (is : IsView y.device w) (waits_ : WaitsOn sealers.sealed hashes.hashed seed h.view w) where
+    (h : DeclaredStands seed names d f c x m) (named : y.name ≡ x.name) (runs : ForSome y.device.session (Runs y.device.number)) (waiting : y.waiting ≡ x.waiting) (linked : y.link ≡ x.link) (w : inner.Member) (is : IsView y.device w) (waits_ : WaitsOn sealers.sealed hashes.hashed seed h.view w) where
   abbrev WF : Waiting → Type 0
   WF u = WaitsFor sealers.sealed sealers.signed hashes.hashed seed names f w y.waiting u
 
@@ -272,7 +277,7 @@ module _ {D S H : Type 0} {disks : Ghosts D} {sealers : Seals S} {hashes : Hashe
   still = subst (λ k. WaitsFor sealers.sealed sealers.signed hashes.hashed seed names f w k m.waiting) (sym waiting) (waits_on sealers.sealed sealers.signed hashes.hashed seed names f h.view w x.waiting m.waiting waits_ h.waits)
 
   on : (n : Member) → DeviceStands sealers.sealed sealers.signed hashes.hashed seed names d f c w n.part → WF n.waiting → n.name ≡ m.name → n.link ≡ m.link → n.batch ≡ m.batch → DeclaredStands seed names d f c y n
-  on n part w_ name link batch = record { name = named ∙ h.name; named = name ∙ h.named; view = w; is = is; runs = runs; part = part; waits = w_; link = link ∙ h.link; batch = batch ∙ h.batch }
+  on n part w_ name link batch = record { name = named ∙ h.name; named = name ∙ h.named; view = w; is = is; runs = runs; part = part; waits = w_; link = link ∙ h.link ∙ ap (λ l. l.armed) (sym linked); batch = batch ∙ h.batch }
 
   answered : (answer : Result ℕ says.FetchFault) → FetchGoes sealers.sealed sealers.signed hashes.hashed seed names f h.view w answer → ((q : Part) → FetchStep d c m.part answer q → q.is_open ≡ m.part.is_open)
       → (n : Member) × Does (FetchStep d c m.part) ByFetch (ByFetch answer) m n × DeclaredStands seed names d f c y n

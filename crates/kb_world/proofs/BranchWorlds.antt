@@ -37,9 +37,9 @@ use Rattle.kb_folder.specs.Held.{held}
 use Rattle.kb_folder.specs.Goes.{HasChain, Grows, RequestsStay}
 use Rattle.kb_world.specs.Statements.{Reply, ByFetch, BySettle, On}
 use Rattle.kb_world.specs.Statements as statements
-use Rattle.kb_world.specs.Machine.{Member, State, Does, ActStep, Steps, Ends, LinkAfter, Stage, ToSettle, last_reply, next, resolve_stage, stage_act, merger, went}
+use Rattle.kb_world.specs.Machine.{Member, State, Does, ActStep, Steps, Ends, Stage, ToSettle, last_reply, next, resolve_stage, stage_act, merger, went}
 use Rattle.kb_world.specs.RunLaws.{IsDevice}
-use Rattle.kb_world.specs.Printed.{printed, all_printed, fetched_line, settled_lines}
+use Rattle.kb_world.specs.Printed.{printed, all_printed, fetched_line, settled_line}
 use Rattle.kb_world.specs.Turning.{Turned}
 use Rattle.kb_world.specs.Standing.{DeclaredStands, WorldStands, IsStanding}
 use Rattle.kb_world.specs.Doing.{Tells, Does as Did, GoesOn, stage_if}
@@ -112,6 +112,7 @@ settle_does : (moment : ℕ) (r : Result (ℕ × Report) SettleFault) (d : ℕ) 
 settle_does moment (Ok merged) d c m n c' some h = h
 settle_does moment (Err settle.Closed) d c m n c' some h = h
 settle_does moment (Err settle.NoPlan) d c m n c' some h = h
+settle_does moment (Err settle.LinkFault) d c m n c' some h = h
 settle_does moment (Err (settle.ByPut refusal)) d c m n c' some h = h
 settle_does moment (Err settle.Stopped) d c m n c' some h = h
 settle_does moment (Err settle.Memory) d c m n c' some h = absurd some
@@ -121,6 +122,7 @@ settle_none : (moment : ℕ) (r : Result (ℕ × Report) SettleFault) (d : ℕ) 
 settle_none moment (Ok merged) d c m n c' lacks h = absurd lacks
 settle_none moment (Err settle.Closed) d c m n c' lacks h = absurd lacks
 settle_none moment (Err settle.NoPlan) d c m n c' lacks h = absurd lacks
+settle_none moment (Err settle.LinkFault) d c m n c' lacks h = absurd lacks
 settle_none moment (Err settle.Stopped) d c m n c' lacks h = absurd lacks
 settle_none moment (Err settle.Memory) d c m n c' lacks h = h
 settle_none moment (Err (settle.ByPut why.Memory)) d c m n c' lacks h = absurd h.1.1
@@ -132,15 +134,6 @@ settle_none moment (Err (settle.ByPut (why.SeqGap expected))) d c m n c' lacks h
 settle_none moment (Err (settle.ByPut why.BadFit)) d c m n c' lacks h = absurd lacks
 settle_none moment (Err (settle.ByPut why.ChainEnd)) d c m n c' lacks h = absurd lacks
 settle_none moment (Err (settle.ByPut (why.Collision id))) d c m n c' lacks h = absurd lacks
-
--- no link loses it
-unlost : (r : Result (ℕ × Report) SettleFault) (told : Result (ℕ × Report) says.SettleFault) → IsSettling r told → LinkAfter None told None
-unlost (Ok merged) told is = subst (λ k. LinkAfter None k None) (sym is) (refl, refl)
-unlost (Err settle.Closed) told is = subst (λ k. LinkAfter None k None) (sym is) refl
-unlost (Err settle.NoPlan) told is = subst (λ k. LinkAfter None k None) (sym is) refl
-unlost (Err settle.Memory) told is = absurd is
-unlost (Err (settle.ByPut refusal)) told is = subst (λ k. LinkAfter None k None) (sym is.2) (refl, refl)
-unlost (Err settle.Stopped) told is = subst (λ k. LinkAfter None k None) (sym is) (refl, refl)
 
 -- the chain stays or is followed by the merge
 settle_grew : (d : ℕ) (c : Chain) (p : Part) (by : Merger) (answer : Result (ℕ × Report) says.SettleFault) (c' : Chain) (q : Part) → SettleStep d by c p answer c' q → Grew c c'
@@ -172,7 +165,7 @@ module _ {M D : Type 0} {disks : Ghosts D} (w v : World M D disks) (d : ℕ) (x 
         let is_device : IsDevice s (i + 1) m = record { numbered = omega arith; found = ap (slice_get s.members) (let e : i + 1 - 1 ≡ i = omega arith in e) ∙ m_at } in
         declared_longer s.seed names (held w.folder) (held v.folder) s.chain to.1 grew to.4 h.folder to.3 (longer s.seed names) (request_stays s.seed names) (answers_stay s.seed names) (i + 1) z m (device_meets s (i + 1) m h.good is_device) stands
 
-  pub settles_device : (l : Line) → ((told : Result (ℕ × Report) says.SettleFault) → IsSettling r told → settled_lines x.name told ≡ l ∷ []) → IsSettled r → GoesOn w v (λ names s t. Tells names d s (On d statements.Settle) l (λ reply. resolve_stage (Some reply) ≡ None) t)
+  pub settles_device : (l : Line) → ((told : Result (ℕ × Report) says.SettleFault) → IsSettling r told → l ≡ settled_line x.name told) → IsSettled r → GoesOn w v (λ names s t. Tells names d s (On d statements.Settle) l (λ reply. resolve_stage (Some reply) ≡ None) t)
   settles_device l is some = λ names s h.
       let b = a names s h in
       let went_to = to names s h in
@@ -188,11 +181,11 @@ module _ {M D : Type 0} {disks : Ghosts D} (w v : World M D disks) (d : ℕ) (x 
         chain = c';
         numbered = numbered;
         found = b.is.found;
-        step = record { answer = did.0; part = did.2.part; step = step; link = None; after = subst (λ k. LinkAfter k did.0 None) (sym b.here.link) (unlost r did.0 did.1); reply_is = refl; member = did.2.member };
+        step = record { answer = did.0; part = did.2.part; step = step; link = did.2.link; after = did.2.after; reply_is = refl; member = did.2.member };
         state = refl;
       } in (
         t,
-        record { reply = BySettle did.0; step = act; line_is = ap (λ k. settled_lines k did.0) (sym b.here.name) ∙ is did.0 did.1; so = refl },
+        record { reply = BySettle did.0; step = act; line_is = ap (λ k. settled_line k did.0 ∷ []) (sym b.here.name) ∙ ap (λ k. k ∷ []) (sym (is did.0 did.1)); so = refl },
         turned w v names d x y numbered found devices seed moment s t n c' h (act_keeps s t h.good (On d statements.Settle) (BySettle did.0) act) refl went_to.3 (registered_kept (held w.folder) (held v.folder) went_to.4) went_to.5 (others names s h grew),
       )
 

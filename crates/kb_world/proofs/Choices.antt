@@ -1,6 +1,7 @@
 -- Every reply of a part leads to one state, also one that tells of a stop or a collision.
 use Rattle.std.proofs.Common.{◌≡◌, ◌⊎◌, ℕ, ◌+◌, ◌-◌, Bool, true, false, [], ◌∷◌, ◌++◌, length, map, Option, Some, None, Result, Ok, Err, inl, inr, refl, sym, ap, ◌∙◌, subst, arith}
 use Rattle.std.specs.Prelude.{slice_set}
+use Rattle.kb_edge.specs.declared.link.Side.{Side}
 use Rattle.kb_ops.specs.declared.requests.PlanFault.{PlanFault}
 use Rattle.kb_ops.specs.declared.requests.Planned.{Planned}
 use Rattle.kb_ops.specs.declared.requests.Planned.TheVariants as planned
@@ -14,9 +15,10 @@ use Rattle.kb_snap.specs.Answers as folder_says
 use Rattle.kb_snap.specs.Puts.{Ask, PutStep, LostPut}
 use Rattle.kb_device.specs.Journals.{Journal, queued, taken, branched, taken_over, resumed}
 use Rattle.kb_device.specs.Parts.{Merger, Flight, Part, IsOpenAt, closed, ended, plan_at, CallStep, NoteStep, NoteStops, PullStep, SettleStep, OpenStep, merge_ask}
-use Rattle.kb_world.specs.Statements.{Side, Reply, ByCall, ByLand, ByNote, ByPull, BySettle, ByOpen, Act, SetSeed, Declare, DoFound, DoRekey, SetMoment, SetRule, See, ListChain, AuditChain, On}
+use Rattle.kb_world.specs.Statements.{Reply, ByCall, ByLand, ByNote, ByPull, BySettle, ByOpen, Act, SetSeed, Declare, DoFound, DoRekey, SetMoment, SetRule, See, ListChain, AuditChain, On}
 use Rattle.kb_world.specs.Statements as statements
-use Rattle.kb_world.specs.Machine.{merger, cut_off, Settling, LinkAfter, Member, went, State, Turns, Does, PicksFlight, PicksNone, NotesAnswer, NotesNone, Landing, Noting, landed, NoteCause, ActStep}
+use Rattle.kb_device.specs.Links.{LinkAfter}
+use Rattle.kb_world.specs.Machine.{merger, cut_off, Settling, Member, went, State, Turns, Does, PicksFlight, PicksNone, NotesAnswer, NotesNone, Landing, Noting, landed, NoteCause, ActStep}
 use Rattle.kb_device.specs.Waits.{Waiting, Nothing, Answered}
 use Rattle.kb_world.specs.Good.{IsGood}
 use Rattle.kb_world.specs.RunLaws.{is_plain}

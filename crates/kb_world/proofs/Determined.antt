@@ -3,6 +3,8 @@ use Rattle.std.proofs.Common.{◌≡◌, ◌⊎◌, ℕ, zero, suc, ◌+◌, ◌
 use Rattle.std.specs.Prelude.{slice_get, slice_set, slice_index_or, nat_lt}
 use Rattle.std.proofs.lemmas.List.Elements.{All-nil, All-cons, All-head, All-tail}
 use Rattle.std.specs.List.{list_all}
+use Rattle.kb_edge.specs.declared.link.Side.{Side}
+use Rattle.kb_edge.specs.declared.link.Side.TheVariants.{Request as AtRequest, Reply as AtReply}
 use Rattle.kb_ops.specs.declared.requests.Request.{Request}
 use Rattle.kb_rules.specs.declared.report.Report.{Report}
 use Rattle.kb_keys.specs.declared.policy.Action.{Action}
@@ -18,9 +20,10 @@ use Rattle.kb_snap.specs.Answers as folder_says
 use Rattle.kb_snap.specs.Puts.{Ask, LostPut}
 use Rattle.kb_device.specs.Journals.{Journal, blank}
 use Rattle.kb_device.specs.Parts.{Flight, Part, CallStep, LookStep, TellStep, PullStep, FetchStep, OpenStep, BackupStep, RestoreStep, armed, powered}
-use Rattle.kb_world.specs.Statements.{Statement, Reply, Silent, Off, ByRekey, ByCall, ByLook, ByStatus, ByPick, ByLand, ByNote, ByPull, ByFetch, BySettle, ByOpen, ByBackup, ByRestore, ByPast, ByReclaim, Lists, Audited, Side, AtRequest, AtReply, Act, SetSeed, Declare, DoFound, DoRekey, SetMoment, SetRule, See, ListChain, AuditChain, On}
+use Rattle.kb_world.specs.Statements.{Statement, Reply, Silent, Off, ByRekey, ByCall, ByLook, ByStatus, ByPick, ByLand, ByNote, ByPull, ByFetch, BySettle, ByOpen, ByBackup, ByRestore, ByPast, ByReclaim, Lists, Audited, Act, SetSeed, Declare, DoFound, DoRekey, SetMoment, SetRule, See, ListChain, AuditChain, On}
 use Rattle.kb_world.specs.Statements as statements
-use Rattle.kb_world.specs.Machine.{merger, IsBatch, IsDiskSize, lost_side, cut_off, LosesAsk, Settling, new_member, Member, went, State, new_state, Turns, Shows, Does, PicksFlight, PicksNone, NotesAnswer, NotesNone, Picking, Landing, Noting, landed, IsNotAsked, IsNotAnswered, NoteCause, Rekeys, ActStep, Progress, Steps, Run, next}
+use Rattle.kb_device.specs.Links.{lost_side}
+use Rattle.kb_world.specs.Machine.{merger, IsBatch, IsDiskSize, cut_off, LosesAsk, Settling, new_member, Member, went, State, new_state, Turns, Shows, Does, PicksFlight, PicksNone, NotesAnswer, NotesNone, Picking, Landing, Noting, landed, IsNotAsked, IsNotAnswered, NoteCause, Rekeys, ActStep, Progress, Steps, Run, next}
 use Rattle.kb_snap.specs.PastViews.{PastStep, ReclaimStep}
 use Rattle.kb_device.specs.Waits.{Waiting, Nothing, Asked, Answered}
 use Rattle.kb_snap.specs.Rekeys.{RekeyStep}

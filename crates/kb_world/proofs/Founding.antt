@@ -97,7 +97,7 @@ module _ {M D : Type 0} {disks : Ghosts D} (w v : World M D disks) (begins : Beg
 
 -- a device is declared, behind those that are
 module _ {M D : Type 0} {disks : Ghosts D} (w v : World M D disks) (registers : RegistersOne seal_by_hmac sign_by_hmac sha256) (once : StandsOnce seal_by_hmac sign_by_hmac sha256)
-    (x : Declared D _ _ disks _ _) (name : List ℕ) (size : ℕ) (devices : v.devices.items ≡ w.devices.items ++ x ∷ []) (seed : v.seed ≡ w.seed) (moment : v.moment ≡ w.moment) (name_is : x.name ≡ name) (waiting : x.waiting ≡ kept.Nothing)
+    (x : Declared D _ _ disks _ _) (name : List ℕ) (size : ℕ) (devices : v.devices.items ≡ w.devices.items ++ x ∷ []) (seed : v.seed ≡ w.seed) (moment : v.moment ≡ w.moment) (name_is : x.name ≡ name) (waiting : x.waiting ≡ kept.Nothing) (unarmed : x.link.armed ≡ None)
     (n : ℕ) (behind : n ≡ length w.devices.items + 1) (folder : held v.folder ≡ registered_with (held w.folder) (device_secret w.seed n)) (runs : ForSome x.device.session (Runs x.device.number))
     (u : inner.Member) (is : IsView x.device u) (own_number : u.number ≡ n) (own_name : u.name ≡ name) (own_secret : u.secret ≡ device_secret w.seed n) (zeros : u.disk.content ≡ replicate size 0) (clean : IsClean u.disk.dirty) (lasts : u.disk.left ≡ None)
     (stands : (seed : List ℕ) (names : Names) (f : Held) (c : Chain) (size : ℕ) → IsNew seed names f u size → DeviceStands seal_by_hmac sign_by_hmac sha256 seed names n f c u (new_part size)) where
@@ -131,7 +131,7 @@ module _ {M D : Type 0} {disks : Ghosts D} (w v : World M D disks) (registers : 
         runs = runs;
         part = subst (λ d. DeviceStands seal_by_hmac sign_by_hmac sha256 s.seed names d g s.chain u (new_part size)) behind_all (stands s.seed names g s.chain size new);
         waits = subst (λ k. WaitsFor seal_by_hmac sign_by_hmac sha256 s.seed names g u k Nothing) (sym waiting) tt;
-        link = refl;
+        link = sym unarmed;
         batch = refl;
       } in (
         t,

@@ -3,14 +3,16 @@ use Rattle.std.proofs.Common.{◌≡◌, ◌⊎◌, ℕ, ◌-◌, List, [], ◌�
 use Rattle.std.specs.Prelude.{slice_get}
 use Rattle.std.specs.Option.{option_map}
 use Rattle.std.proofs.lemmas.List.Elements.{All-nil, All-cons, All-head, All-tail}
+use Rattle.kb_edge.specs.declared.link.Side.{Side}
 use Rattle.kb_rules.specs.declared.report.Report.{Report}
 use Rattle.kb_snap.specs.Chains.{Chain}
 use Rattle.kb_snap.specs.Answers.{PutFault}
 use Rattle.kb_device.specs.Answers.{SettleFault}
 use Rattle.kb_device.specs.Answers as answers
-use Rattle.kb_world.specs.Statements.{Side, Act, SetSeed, Declare, DoFound, DoRekey, SetMoment, SetRule, See, On, ListChain, AuditChain, Statement, Reply, Silent, ByLand, BySettle}
+use Rattle.kb_world.specs.Statements.{Act, SetSeed, Declare, DoFound, DoRekey, SetMoment, SetRule, See, On, ListChain, AuditChain, Statement, Reply, Silent, ByLand, BySettle}
 use Rattle.kb_world.specs.Statements as statements
-use Rattle.kb_world.specs.Machine.{Member, State, new_state, Turns, PicksFlight, PicksNone, NotesAnswer, NotesNone, Picking, landed, LinkAfter, Landing, Noting, ActStep, Progress, Run, Stage, ToPick, ToLand, ToNote, ToFetch, ToSettle, stage_act, flush_stage, drain_stage, resolve_stage, next_after, last_reply, once}
+use Rattle.kb_device.specs.Links.{LinkAfter}
+use Rattle.kb_world.specs.Machine.{Member, State, new_state, Turns, PicksFlight, PicksNone, NotesAnswer, NotesNone, Picking, landed, Landing, Noting, ActStep, Progress, Run, Stage, ToPick, ToLand, ToNote, ToFetch, ToSettle, stage_act, flush_stage, drain_stage, resolve_stage, next_after, last_reply, once}
 use Rattle.kb_world.specs.RunLaws.{LosesNot, LosesNone, TellsNoLoss, UnlostRunsOn}
 use Rattle.kb_world.proofs.Machine.{get_set, get_push}
 

@@ -1,6 +1,8 @@
 -- Each part of a statement has an answer in every state that a run comes to.
 use Rattle.std.proofs.Common.{◌≡◌, ◌≢◌, ◌⊎◌, ℕ, zero, suc, ◌+◌, ◌-◌, ◌^◌, ◌≤◌, ◌<◌, Bool, true, false, List, [], ◌∷◌, ◌++◌, length, Option, Some, None, IsSome, Result, Ok, Err, inl, inr, refl, sym, ap, ◌∙◌, subst, arith}
 use Rattle.std.specs.Prelude.{slice_set, Contains}
+use Rattle.kb_edge.specs.declared.link.Side.{Side}
+use Rattle.kb_edge.specs.declared.link.Side.TheVariants.{Request as AtRequest, Reply as AtReply}
 use Rattle.kb_edge.specs.Disk.{FallsBy}
 use Rattle.kb_ops.specs.declared.rows.Op.{Op}
 use Rattle.kb_ops.specs.declared.requests.Planned.{Planned}
@@ -26,8 +28,9 @@ use Rattle.kb_snap.specs.Puts.{Ask, PutStep, LostPut}
 use Rattle.kb_device.specs.Journals.{Journal, last_seq, resumed, returned}
 use Rattle.kb_device.specs.Parts.{Merger, Flight, Part, IsOpenAt, plan_at, shown_at, status_of, CallStep, LookStep, TellStep, PickStep, NoteStep, PullStep, FetchStep, SettleStep, OpenStep, BackupStep, RestoreStep, HasShelved, last_acknowledged, merge_ask, report_at, flight_of, ask_of, closed, armed, powered}
 use Rattle.kb_device.specs.Meets.{PartMeets, PutMeets}
-use Rattle.kb_world.specs.Statements.{Act, SetSeed, Declare, DoFound, DoRekey, SetMoment, SetRule, See, ListChain, AuditChain, On, Side, AtRequest, AtReply, Reply, Silent, Off, ByRekey, ByCall, ByLook, ByStatus, ByPick, ByLand, ByNote, ByPull, ByFetch, BySettle, ByOpen, ByBackup, ByRestore, ByPast, ByReclaim, Lists, Audited}
-use Rattle.kb_world.specs.Machine.{merger, IsBatch, IsDiskSize, Member, went, State, Turns, Does, Picking, lost_side, cut_off, Landing, Noting, LinkAfter, Settling, landed, IsNotAsked, IsNotAnswered, NoteCause, ActStep}
+use Rattle.kb_world.specs.Statements.{Act, SetSeed, Declare, DoFound, DoRekey, SetMoment, SetRule, See, ListChain, AuditChain, On, Reply, Silent, Off, ByRekey, ByCall, ByLook, ByStatus, ByPick, ByLand, ByNote, ByPull, ByFetch, BySettle, ByOpen, ByBackup, ByRestore, ByPast, ByReclaim, Lists, Audited}
+use Rattle.kb_device.specs.Links.{LinkAfter, lost_side}
+use Rattle.kb_world.specs.Machine.{merger, IsBatch, IsDiskSize, Member, went, State, Turns, Does, Picking, cut_off, Landing, Noting, Settling, landed, IsNotAsked, IsNotAnswered, NoteCause, ActStep}
 use Rattle.kb_device.specs.Waits.{Waiting, Nothing, Asked, Answered, WaitingMeets}
 use Rattle.kb_snap.specs.Rekeys.{RekeyStep}
 use Rattle.kb_world.specs.Statements as statements

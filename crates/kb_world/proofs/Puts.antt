@@ -15,27 +15,29 @@ use Rattle.kb_snap.specs.Chains.{Chain, most_revisions}
 use Rattle.kb_device.specs.Journals.{Journal}
 use Rattle.kb_snap.specs.Lawful.{IsLawful, Extends}
 use Rattle.kb_device.specs.Meets.{PartMeets, AskMeets, PutMeets, AnswerMeets, FlightMeets, IsStep}
-use Rattle.kb_device.specs.Parts.{Flight, Part}
-use Rattle.kb_snap.specs.Puts.{Ask, IsNext, PutStep}
+use Rattle.kb_device.specs.Parts.{Flight, Part, closed}
+use Rattle.kb_snap.specs.Puts.{Ask, IsNext, PutStep, LostPut}
 use Rattle.kb_world.specs.Statements.{LandFault, ByLand}
 use Rattle.kb_world.specs.Statements as statements
 use Rattle.kb_device.specs.Waits.{Waiting, Nothing, Asked, Answered, WaitingMeets}
-use Rattle.kb_world.specs.Machine.{Member, IsNotAsked, PutsAsk, PutsNone, landed}
+use Rattle.kb_world.specs.Machine.{Member, IsNotAsked, PutsAsk, LosesAsk, PutsNone, cut_off, landed}
 use Rattle.kb_world.specs.Good.{MemberMeets}
 use Rattle.kb_snap.proofs.Lists.{append_none}
 use Rattle.kb_device.proofs.Sent.{sent_stays}
-use Rattle.kb_device.proofs.Parts.{at_session}
+use Rattle.kb_device.proofs.Parts.{at_session, closed_part}
 use Rattle.kb_device.proofs.Puts.{land_follows}
 use Rattle.kb_device.proofs.Steps.{refused}
 use Rattle.kb_folder.specs.Chains.{Names}
 use Rattle.kb_folder.specs.Puts.{Held, Puts}
 use Rattle.kb_folder.specs.Goes.{HasChain, IsFor, Means, Grows, PutsGo, PutsMean, RequestsStay}
-use Rattle.kb_device.specs.Forms.{StandsLonger}
+use Rattle.kb_device.specs.Forms.{DeviceGoes, StandsLonger}
 use Rattle.kb_device.specs.Inside.{Aloft, Inside}
 use Rattle.kb_device.specs.Stands as inner
 use Rattle.kb_device.specs.Stands.{DeviceStands}
 use Rattle.kb_device.specs.Devices.{IsView, Runs}
 use Rattle.kb_device.specs.Noting.{Sent, AnswerStands}
+use Rattle.kb_device.specs.Links.{Answers, Carries, PutsOver}
+use Rattle.kb_device.specs.declared.linked.CarryFault.TheVariants as carry
 use Rattle.kb_device.specs.Answering.{SentLands, AnswersStay}
 use Rattle.kb_device.specs.declared.answers.PutAnswer.{PutAnswer}
 use Rattle.kb_device.proofs.Picks.{inside_at}
@@ -56,6 +58,10 @@ pub put_grew : (c : Chain) (ask : Ask) (answer : Result ℕ PutFault) (c' : Chai
 put_grew c ask (Ok n) c' step = (ask.revision ∷ [], step.3)
 put_grew c ask (Err fault) c' step = ([], refused c ask fault c' step ∙ sym (append_none c))
 
+pub lost_grew : (c : Chain) (ask : Ask) (lost : Option (Result ℕ PutFault)) (c' : Chain) → LostPut c ask lost c' → Grew c c'
+lost_grew c ask None c' step = ([], step ∙ sym (append_none c))
+lost_grew c ask (Some answer) c' step = put_grew c ask answer c' step
+
 -- what a put's answer is as that of a landing
 abbrev pub landing_of : Result ℕ PutRefusal → Result ℕ code.LandFault
 landing_of (Ok n) = Ok n
@@ -65,7 +71,11 @@ is_landing : (put : Result ℕ PutRefusal) (answer : Result ℕ PutFault) → Me
 is_landing (Ok n) answer means = ap landed means
 is_landing (Err refusal) answer means = (answer, means, refl)
 
-land_shape : (put : Result ℕ PutRefusal) (d : ℕ) (c : Chain) (m n : Member) (c' : Chain) → put ≢ Err why.Memory → ((told : Result ℕ LandFault) × IsLanding (landing_of put) told × (PutsAsk c (ByLand told) m n c' ⊎ ((c' ≡ c) × PutsNone (ByLand told) m n))) → LandSteps (landing_of put) d c m n c'
+-- what a landing did where memory didn't run out
+abbrev pub Landed : Result ℕ code.LandFault → ℕ → Chain → Member → Member → Chain → Type 0
+Landed r d c m n c' = (told : Result ℕ LandFault) × IsLanding r told × ((PutsAsk c (ByLand told) m n c' ⊎ LosesAsk c (ByLand told) m n c') ⊎ ((c' ≡ c) × PutsNone (ByLand told) m n))
+
+land_shape : (put : Result ℕ PutRefusal) (d : ℕ) (c : Chain) (m n : Member) (c' : Chain) → put ≢ Err why.Memory → Landed (landing_of put) d c m n c' → LandSteps (landing_of put) d c m n c'
 land_shape (Ok number) d c m n c' some h = h
 land_shape (Err why.BadRevision) d c m n c' some h = h
 land_shape (Err why.NotWriter) d c m n c' some h = h
@@ -193,37 +203,57 @@ module _ {D S H : Type 0} {disks : Ghosts D} {sealers : Seals S} {hashes : Hashe
     batch = h.batch;
   }
 
-  module _ (f g : Held) (x y : Declared D S H disks sealers hashes) (name : y.name ≡ x.name) (device : y.device ≡ x.device)
+  module _ (f g : Held) (x y : Declared D S H disks sealers hashes) (name : y.name ≡ x.name)
       (goes : PutsGo sealers.sealed sealers.signed hashes.hashed seed names) (means : PutsMean sealers.sealed sealers.signed hashes.hashed seed names)
       (longer : StandsLonger sealers.sealed sealers.signed hashes.hashed seed names) (request_stays : RequestsStay sealers.sealed sealers.signed hashes.hashed seed names) (answers_stay : AnswersStay sealers.sealed sealers.signed hashes.hashed seed names)
-      (lands : SentLands sealers.sealed sealers.signed hashes.hashed seed names)
-      (d : ℕ) (c : Chain) (m : Member) (lawful : IsLawful c) (meets : MemberMeets d c m) (has : HasChain sealers.sealed sealers.signed hashes.hashed seed names f c) (h : DeclaredStands seed names d f c x m) where
-    -- the request is put, and memory doesn't run out
-    pub puts_request : (request : FolderRequest) (put : Result ℕ PutRefusal) → x.waiting ≡ kept.Request request → Puts sealers.signed hashes.hashed f request g put → put ≢ Err why.Memory
-        → y.waiting ≡ kept.Answer (record { number = put; hash = sha256 request.revision })
-        → (n : Member) × (c' : Chain) × LandSteps (landing_of put) d c m n c' × HasChain sealers.sealed sealers.signed hashes.hashed seed names g c' × Grows f g × DeclaredStands seed names d g c' y n
-    puts_request request put was puts some waiting =
-        let asked = asked_by sealers.sealed sealers.signed hashes.hashed seed names f h.view x.waiting request m.waiting was h.waits in
-        let ask = asked.0 in
-        let asks : AskMeets d c m.name m.part ask = subst (WaitingMeets d c m.name m.part) asked.1 meets.waiting in
+      (d : ℕ) (c : Chain) (m : Member) (lawful : IsLawful c) (meets : MemberMeets d c m) (has : HasChain sealers.sealed sealers.signed hashes.hashed seed names f c) (h : DeclaredStands seed names d f c x m)
+      (request : FolderRequest) (was : x.waiting ≡ kept.Request request) where
+    asked : (ask : Ask) × (m.waiting ≡ Asked ask) × IsFor sealers.sealed sealers.signed hashes.hashed seed names f request ask × Sent sealers.sealed hashes.hashed seed f request h.view
+    asked = asked_by sealers.sealed sealers.signed hashes.hashed seed names f h.view x.waiting request m.waiting was h.waits
+
+    abbrev ask : Ask
+    ask = asked.0
+
+    asks : AskMeets d c m.name m.part ask
+    asks = subst (WaitingMeets d c m.name m.part) asked.1 meets.waiting
+
+    -- the folder's put is the machine's
+    record Gone (put : Result ℕ PutRefusal) : Type 0 where
+      answer : Result ℕ PutFault
+      told : Means put answer
+      chain : Chain
+      step : PutStep c ask answer chain
+      grown : Grows f g
+      had : HasChain sealers.sealed sealers.signed hashes.hashed seed names g chain
+
+    gone : (put : Result ℕ PutRefusal) → Answers sealers.signed hashes.hashed f request g put → Gone put
+    gone put made =
         let extends : Extends c ask = λ next room. land_follows d c m.name m.part ask meets.part asks next room in
-        let told = means f g c request ask put has asked.2 puts some in
-        let to = goes f g request put told.0 puts told.1 c ask lawful extends has asked.2 in
-        let c' = to.0 in
-        let grew = put_grew c ask told.0 c' to.1 in
-        let n : Member = record m { waiting = Answered told.0 } in
-        let answer : PutAnswer = record { number = put; hash = sha256 request.revision } in
-        let part = device_longer sealers.sealed sealers.signed hashes.hashed seed names f g c c' grew to.2 has to.3 longer request_stays answers_stay d h.view m.part meets.part h.part in
+        let told = means f g c request ask put has asked.2 made.0 made.1 in
+        let to = goes f g request put told.0 made.0 told.1 c ask lawful extends has asked.2 in
+        record { answer = told.0; told = told.1; chain = to.0; step = to.1; grown = to.2; had = to.3 }
+
+    -- the request is put, and its answer comes back
+    pub puts_request : SentLands sealers.sealed sealers.signed hashes.hashed seed names → (answer : PutAnswer) → Answers sealers.signed hashes.hashed f request g answer.number → Carries (Some x.link.armed) (Some y.link.armed) → answer.hash ≡ sha256 request.revision
+        → y.device ≡ x.device → y.waiting ≡ kept.Answer answer
+        → (n : Member) × (c' : Chain) × LandSteps (landing_of answer.number) d c m n c' × HasChain sealers.sealed sealers.signed hashes.hashed seed names g c' × Grows f g × DeclaredStands seed names d g c' y n
+    puts_request lands answer made carries hash device waiting =
+        let put = answer.number in
+        let to = gone put made in
+        let c' = to.chain in
+        let grew = put_grew c ask to.answer c' to.step in
+        let n : Member = record m { waiting = Answered to.answer } in
+        let part = device_longer sealers.sealed sealers.signed hashes.hashed seed names f g c c' grew to.grown has to.had longer request_stays answers_stay d h.view m.part meets.part h.part in
         let number : (s : Inside) (a : Aloft) (k : ℕ) → h.view.inside ≡ Some s → s.aloft ≡ Some a → put ≡ Ok k → k ≡ a.flight.number =
         λ s a k is flies ok.
-        taken_number c c' ask put told.0 k told.1 to.1 ok ∙ ap (λ (q : Ask). q.number) asks.ask_is
+        taken_number c c' ask put to.answer k to.told to.step ok ∙ ap (λ (q : Ask). q.number) asks.ask_is
         ∙ ap (λ (q : Flight). q.number) (flight_once m.part asks.flight a.flight asks.flight_is (flight_at sealers.sealed sealers.signed hashes.hashed seed names d f c h.view m.part s a h.part is flies)) in
-        let stands = lands d f g c h.view m.part request answer has h.part asked.3 puts refl number in (
+        let stands = lands d f g c h.view m.part request answer has h.part asked.3 made.0 hash number in (
           n,
           c',
-          land_shape put d c m n c' some (landed told.0, is_landing put told.0 told.1, inl (record { ask = ask; waits = asked.1; carried = h.link; answer = told.0; step = to.1; reply_is = refl; member = refl })),
-          to.3,
-          to.2,
+          land_shape put d c m n c' made.1 (landed to.answer, is_landing put to.answer to.told, inl (inl (record { ask = ask; waits = asked.1; carried = h.link ∙ carries.0; answer = to.answer; step = to.step; reply_is = refl; member = refl }))),
+          to.had,
+          to.grown,
           record {
             name = name ∙ h.name;
             named = h.named;
@@ -231,11 +261,54 @@ module _ {D S H : Type 0} {disks : Ghosts D} {sealers : Seals S} {hashes : Hashe
             is = subst (λ e. IsView e h.view) (sym device) h.is;
             runs = subst (λ e. ForSome e.session (Runs e.number)) (sym device) h.runs;
             part = part;
-            waits = subst (λ k. WaitsFor sealers.sealed sealers.signed hashes.hashed seed names g h.view k (Answered told.0)) (sym waiting) (told.1, stands);
-            link = h.link;
+            waits = subst (λ k. WaitsFor sealers.sealed sealers.signed hashes.hashed seed names g h.view k (Answered to.answer)) (sym waiting) (to.told, stands);
+            link = h.link ∙ carries.0 ∙ sym carries.1;
             batch = h.batch;
           },
         )
+
+    -- the request is lost, or its answer, and the device leaves
+    module _ (w : inner.Member) (is : IsView y.device w) (runs : ForSome y.device.session (Runs y.device.number)) (leaves : DeviceGoes sealers.sealed sealers.signed hashes.hashed seed names h.view.number h.view w (λ p q. q ≡ closed p)) (waiting : y.waiting ≡ kept.Nothing) where
+      left : DeviceStands sealers.sealed sealers.signed hashes.hashed seed names d f c w (closed m.part)
+      left =
+          let goes : DeviceGoes sealers.sealed sealers.signed hashes.hashed seed names d h.view w (λ p q. q ≡ closed p) = subst (λ k. DeviceGoes sealers.sealed sealers.signed hashes.hashed seed names k h.view w (λ p q. q ≡ closed p)) h.part.number leaves in
+          let to = goes f c m.part meets.part has h.part in
+          subst (λ q. DeviceStands sealers.sealed sealers.signed hashes.hashed seed names d f c w q) to.1 to.2
+
+      gone_off : (c' : Chain) → y.link.armed ≡ None → DeviceStands sealers.sealed sealers.signed hashes.hashed seed names d g c' w (closed m.part) → DeclaredStands seed names d g c' y (cut_off m)
+      gone_off c' unarmed part = record {
+        name = name ∙ h.name;
+        named = h.named;
+        view = w;
+        is = is;
+        runs = runs;
+        part = part;
+        waits = subst (λ k. WaitsFor sealers.sealed sealers.signed hashes.hashed seed names g w k Nothing) (sym waiting) tt;
+        link = sym unarmed;
+        batch = h.batch;
+      }
+
+      pub loses_request : PutsOver sealers.signed hashes.hashed f request g (Some x.link.armed) (Some y.link.armed) (Err carry.Lost)
+          → (n : Member) × (c' : Chain) × LandSteps (Err land.LinkFault) d c m n c' × HasChain sealers.sealed sealers.signed hashes.hashed seed names g c' × Grows f g × DeclaredStands seed names d g c' y n
+      loses_request (inl lost) = (
+        cut_off m,
+        c,
+        (Err (statements.LinkFault None), (None, refl), inl (inr (record { ask = ask; waits = asked.1; lost = None; side = h.link ∙ lost.1.0; step = refl; reply_is = refl; member = refl }))),
+        subst (λ (e : Held). HasChain sealers.sealed sealers.signed hashes.hashed seed names e c) (sym lost.0) has,
+        inl lost.0,
+        gone_off c lost.1.1 (subst (λ (e : Held). DeviceStands sealers.sealed sealers.signed hashes.hashed seed names d e c w (closed m.part)) (sym lost.0) left),
+      )
+      loses_request (inr lost) =
+          let to = gone lost.0 lost.1 in
+          let c' = to.chain in
+          let grew = put_grew c ask to.answer c' to.step in (
+            cut_off m,
+            c',
+            (Err (statements.LinkFault (Some to.answer)), (Some to.answer, refl), inl (inr (record { ask = ask; waits = asked.1; lost = Some to.answer; side = h.link ∙ lost.2.0; step = to.step; reply_is = refl; member = refl }))),
+            to.had,
+            to.grown,
+            gone_off c' lost.2.1 (device_longer sealers.sealed sealers.signed hashes.hashed seed names f g c c' grew to.grown has to.had longer request_stays answers_stay d w (closed m.part) (closed_part d c m.part meets.part) left),
+          )
 
   -- no request waits
   pub puts_none : (f : Held) (x : Declared D S H disks sealers hashes) (d : ℕ) (c : Chain) (m : Member) → HasChain sealers.sealed sealers.signed hashes.hashed seed names f c → DeclaredStands seed names d f c x m → ((request : FolderRequest) → x.waiting ≡ kept.Request request → ⊥)
@@ -244,7 +317,19 @@ module _ {D S H : Type 0} {disks : Ghosts D} {sealers : Seals S} {hashes : Hashe
       (m, c, (Err statements.NoFlight, refl, inr (refl, record { none = unasked sealers.sealed sealers.signed hashes.hashed seed names f h.view x.waiting m.waiting other h.waits; reply_is = refl; member = refl })), has, inl refl, h)
 
   -- memory ran out
-  pub puts_lack : (f g : Held) (x : Declared D S H disks sealers hashes) (d : ℕ) (c : Chain) (m : Member) → g ≡ f → HasChain sealers.sealed sealers.signed hashes.hashed seed names f c → DeclaredStands seed names d f c x m
-      → (n : Member) × (c' : Chain) × LandSteps (Err (land.ByFolder why.Memory)) d c m n c' × HasChain sealers.sealed sealers.signed hashes.hashed seed names g c' × Grows f g × DeclaredStands seed names d g c' x n
-  puts_lack f g x d c m same has h =
-      (m, c, (refl, refl), subst (λ e. HasChain sealers.sealed sealers.signed hashes.hashed seed names e c) (sym same) has, inl same, subst (λ e. DeclaredStands seed names d e c x m) (sym same) h)
+  pub puts_lack : (f g : Held) (x y : Declared D S H disks sealers hashes) (d : ℕ) (c : Chain) (m : Member) → g ≡ f → y.name ≡ x.name → y.device ≡ x.device → y.waiting ≡ x.waiting → y.link.armed ≡ x.link.armed
+      → HasChain sealers.sealed sealers.signed hashes.hashed seed names f c → DeclaredStands seed names d f c x m
+      → (n : Member) × (c' : Chain) × LandSteps (Err (land.ByFolder why.Memory)) d c m n c' × HasChain sealers.sealed sealers.signed hashes.hashed seed names g c' × Grows f g × DeclaredStands seed names d g c' y n
+  puts_lack f g x y d c m same name device waiting linked has h =
+      let here : DeclaredStands seed names d f c y m = record {
+        name = name ∙ h.name;
+        named = h.named;
+        view = h.view;
+        is = subst (λ e. IsView e h.view) (sym device) h.is;
+        runs = subst (λ e. ForSome e.session (Runs e.number)) (sym device) h.runs;
+        part = h.part;
+        waits = subst (λ k. WaitsFor sealers.sealed sealers.signed hashes.hashed seed names f h.view k m.waiting) (sym waiting) h.waits;
+        link = h.link ∙ sym linked;
+        batch = h.batch;
+      } in
+      (m, c, (refl, refl), subst (λ e. HasChain sealers.sealed sealers.signed hashes.hashed seed names e c) (sym same) has, inl same, subst (λ e. DeclaredStands seed names d e c y m) (sym same) here)

@@ -24,7 +24,7 @@ use Rattle.kb_seal.specs.Sealing.{seal_by_hmac, sign_by_hmac}
 use Rattle.kb_folder.specs.Held.{held}
 use Rattle.kb_device.proofs.Longer.{chain_length}
 use Rattle.kb_world.specs.Standing.{WorldStands, IsStanding, device_count}
-use Rattle.kb_world.specs.Doing.{MayDo, Tells, Does, DoesOn, GoesOn, Flushes, stage_if, is_picked, is_noted}
+use Rattle.kb_world.specs.Doing.{MayDo, Tells, Does, DoesOn, GoesOn, Flushes, stage_if, is_picked, is_carried, is_noted}
 use Rattle.kb_world.specs.declared.world.World.{World}
 
 -- ---- the machine's statements
@@ -312,8 +312,8 @@ still w given = λ names s h may. (s, lacks_first (statement_of given) s s refl,
 abbrev pub PickSays : Line → Reply → Type 0
 PickSays line reply = (flush_stage (Some reply) ≡ stage_if (is_picked line) ToLand) × (drain_stage (Some reply) ≡ flush_stage (Some reply))
 
-abbrev pub LandSays : Reply → Type 0
-LandSays reply = flush_stage (Some reply) ≡ Some ToNote
+abbrev pub LandSays : Line → Reply → Type 0
+LandSays line reply = (flush_stage (Some reply) ≡ stage_if (is_carried line) ToNote) × (drain_stage (Some reply) ≡ flush_stage (Some reply))
 
 abbrev pub NoteSays : Line → Reply → Type 0
 NoteSays line reply = (flush_stage (Some reply) ≡ None) × (drain_stage (Some reply) ≡ stage_if (is_noted line) ToPick)
@@ -353,11 +353,28 @@ module _ {M D : Type 0} {disks : Ghosts D} where
         let last = stays names to.0 to.2 in
         (last.0, flush_ends d s to.0 last.0 to.1.reply to.1.step last.1, last.2)
 
-    module _ (picked : is_picked first ≡ true) (z : World M D disks) (second : Line) (lands : GoesOn u z (λ names s t. Tells names d s (On d statements.Land) second LandSays t)) where
+    module _ (picked : is_picked first ≡ true) (z : World M D disks) (second : Line) (lands : GoesOn u z (λ names s t. Tells names d s (On d statements.Land) second (LandSays second) t)) where
       goes_on : (reply : Reply) → PickSays first reply → flush_stage (Some reply) ≡ Some ToLand
       goes_on reply so = so.0 ∙ ap (λ b. stage_if b ToLand) picked
 
-      -- or in the note
+      -- no note of a put that was lost
+      pub flushed_two : (old new : List Line) → new ≡ (old ++ first ∷ []) ++ second ∷ [] → is_carried second ≡ false → GoesOn w z (λ names s t. Flushes names d s false old new t)
+      flushed_two old new lines lost = λ names s h.
+          let one = picks names s h in
+          let two = lands names one.0 one.2 in
+          let ends : flush_stage (Some two.1.reply) ≡ None = two.1.so.0 ∙ ap (λ b. stage_if b ToNote) lost in
+          let printed_are : all_printed names d (one.1.reply ∷ two.1.reply ∷ []) ≡ first ∷ second ∷ [] = (λ i. one.1.line_is i ++ (two.1.line_is i ++ [])) in (
+            two.0,
+            record {
+              replies = one.1.reply ∷ two.1.reply ∷ [];
+              steps = (flush_two d s one.0 two.0 one.1.reply two.1.reply one.1.step (goes_on one.1.reply one.1.so) two.1.step, stage_next d (one.1.reply ∷ two.1.reply ∷ []) None ends);
+              lines_are = lines ∙ append_assoc old (first ∷ []) (second ∷ []) ∙ ap (λ l. old ++ l) (sym printed_are);
+              goes = two.1.so.1 ∙ ends;
+            },
+            two.2,
+          )
+
+      -- want of memory in the note
       pub flush_lacks_note : (v : World M D disks) → GoesOn z v (λ names s t. t ≡ s) → GoesOn w v (λ names s t. Ends s (statements.Flush d) t)
       flush_lacks_note v stays = λ names s h.
           let one = picks names s h in
@@ -365,7 +382,10 @@ module _ {M D : Type 0} {disks : Ghosts D} where
           let last = stays names two.0 two.2 in
           (last.0, flush_ends_late d s one.0 two.0 last.0 one.1.reply two.1.reply one.1.step (goes_on one.1.reply one.1.so) two.1.step last.1, last.2)
 
-      module _ (v : World M D disks) (third : Line) (notes : GoesOn z v (λ names s t. Tells names d s (On d statements.Note) third (NoteSays third) t)) where
+      module _ (carried : is_carried second ≡ true) (v : World M D disks) (third : Line) (notes : GoesOn z v (λ names s t. Tells names d s (On d statements.Note) third (NoteSays third) t)) where
+        notes_on : (reply : Reply) → LandSays second reply → flush_stage (Some reply) ≡ Some ToNote
+        notes_on reply so = so.0 ∙ ap (λ b. stage_if b ToNote) carried
+
         pub flushed_three : (old new : List Line) → new ≡ ((old ++ first ∷ []) ++ second ∷ []) ++ third ∷ [] → GoesOn w v (λ names s t. Flushes names d s (is_noted third) old new t)
         flushed_three old new lines = λ names s h.
             let one = picks names s h in
@@ -375,7 +395,7 @@ module _ {M D : Type 0} {disks : Ghosts D} where
               three.0,
               record {
                 replies = one.1.reply ∷ two.1.reply ∷ three.1.reply ∷ [];
-                steps = flush_three d s one.0 two.0 three.0 one.1.reply two.1.reply three.1.reply one.1.step (goes_on one.1.reply one.1.so) two.1.step two.1.so three.1.step three.1.so.0;
+                steps = flush_three d s one.0 two.0 three.0 one.1.reply two.1.reply three.1.reply one.1.step (goes_on one.1.reply one.1.so) two.1.step (notes_on two.1.reply two.1.so) three.1.step three.1.so.0;
                 lines_are = lines ∙ append_assoc (old ++ first ∷ []) (second ∷ []) (third ∷ []) ∙ append_assoc old (first ∷ []) (second ∷ third ∷ []) ∙ ap (λ l. old ++ l) (sym printed_are);
                 goes = three.1.so.1;
               },
@@ -389,7 +409,7 @@ module _ {M D : Type 0} {disks : Ghosts D} where
             let one = picks names s stands.2 in
             let two = lands names one.0 one.2 in
             let three = notes names two.0 two.2 in
-            let grows = flush_grows d s one.0 two.0 three.0 one.1.reply two.1.reply three.1.reply one.1.step (goes_on one.1.reply one.1.so) two.1.step two.1.so three.1.step (three.1.so.1 ∙ ap (λ b. stage_if b ToPick) noted) in
+            let grows = flush_grows d s one.0 two.0 three.0 one.1.reply two.1.reply three.1.reply one.1.step (goes_on one.1.reply one.1.so) two.1.step (notes_on two.1.reply two.1.so) three.1.step (three.1.so.1 ∙ ap (λ b. stage_if b ToPick) noted) in
             let before = world_length w names s stands.2 in
             let after = world_length v names three.0 three.2 in
             omega (arith, grows, before, after)

@@ -4,6 +4,8 @@ use Rattle.std.proofs.Common.{◌≡◌, ◌≢◌, ℕ, ◌+◌, ◌^◌, ◌�
 use Rattle.std.specs.Prelude.{Contains, nat_lt, nat_le}
 use Rattle.std.proofs.lemmas.List.Elements.{All-contains}
 use Rattle.std.proofs.lemmas.Bool.Decides.{nat_tests}
+use Rattle.kb_edge.specs.declared.link.Side.{Side}
+use Rattle.kb_edge.specs.declared.link.Side.TheVariants.{Request as AtRequest, Reply as AtReply}
 use Rattle.kb_ops.specs.declared.rows.Op.{Op}
 use Rattle.kb_ops.specs.declared.requests.PlanFault.{PlanFault}
 use Rattle.kb_ops.specs.declared.requests.Planned.{Planned}
@@ -29,8 +31,8 @@ use Rattle.kb_snap.specs.Answers as folder_says
 use Rattle.kb_snap.specs.Puts.{Ask, PutStep}
 use Rattle.kb_device.specs.Journals.{Journal, last_seq, queued, taken, branched, resumed, returned}
 use Rattle.kb_device.specs.Parts.{Merger, Flight, Part, IsOpenAt, HasPlan, closed, opened, plan_at, shown_at, status_of, CallStep, LookStep, TellStep, PickStep, NoteStep, PullStep, FetchStep, SettleStep, OpenStep, BackupStep, RestoreStep, last_acknowledged, restored, flight_of, ask_of, merge_ask, report_at}
-use Rattle.kb_world.specs.Statements.{Side, AtRequest, AtReply, ByCall, ByNote, ByPull, BySettle, ByOpen}
-use Rattle.kb_world.specs.Machine.{LinkAfter}
+use Rattle.kb_world.specs.Statements.{ByCall, ByNote, ByPull, BySettle, ByOpen}
+use Rattle.kb_device.specs.Links.{LinkAfter}
 use Rattle.kb_world.specs.RunLaws.{hides_apart, IsPlain}
 use Rattle.kb_world.specs.RunReplies.{disarmed_part}
 use Rattle.kb_device.proofs.Parts.{one_is, all_one}

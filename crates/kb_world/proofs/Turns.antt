@@ -2,6 +2,7 @@
 use Rattle.std.proofs.Common.{◌≡◌, ◌⊎◌, ℕ, ◌+◌, ◌-◌, Bool, true, false, List, Some, None, Result, Ok, Err, inl, inr, refl, sym, ap, ◌∙◌, subst, arith}
 use Rattle.std.specs.Option.{ForSome}
 use Rattle.kb_edge.specs.declared.disk.Disk.{Ghosts}
+use Rattle.kb_edge.specs.declared.link.Side.{Side}
 use Rattle.kb_seal.specs.declared.sealer.Sealer.{Ghosts as Seals}
 use Rattle.kb_blocks.specs.declared.hashing.BlockHash.{Ghosts as Hashes}
 use Rattle.kb_ops.specs.declared.requests.Request.{Request}
@@ -109,7 +110,7 @@ pull_stopped (Err pull.Memory) e = cc
 pull_stopped (Err pull.Stopped) e = refl
 
 module _ {D S H : Type 0} {disks : Ghosts D} {sealers : Seals S} {hashes : Hashes H} (seed : List ℕ) (names : Names) (d : ℕ) (f : Held) (c : Chain) (x y : Declared D S H disks sealers hashes) (m : Member)
-    (meets : MemberMeets d c m) (chain : HasChain sealers.sealed sealers.signed hashes.hashed seed names f c) (h : DeclaredStands seed names d f c x m) (name : y.name ≡ x.name) (runs : ForSome y.device.session (Runs y.device.number)) where
+    (meets : MemberMeets d c m) (chain : HasChain sealers.sealed sealers.signed hashes.hashed seed names f c) (h : DeclaredStands seed names d f c x m) (name : y.name ≡ x.name) (runs : ForSome y.device.session (Runs y.device.number)) (linked : y.link ≡ x.link) where
   abbrev DS : inner.Member → Part → Type 0
   DS v p = DeviceStands sealers.sealed sealers.signed hashes.hashed seed names d f c v p
 
@@ -117,7 +118,7 @@ module _ {D S H : Type 0} {disks : Ghosts D} {sealers : Seals S} {hashes : Hashe
   WF v k w = WaitsFor sealers.sealed sealers.signed hashes.hashed seed names f v k w
 
   on : (w : inner.Member) → IsView y.device w → (n : Member) → DS w n.part → WF w y.waiting n.waiting → n.name ≡ m.name → n.link ≡ m.link → n.batch ≡ m.batch → DeclaredStands seed names d f c y n
-  on w is n part waiting named link batch = record { name = name ∙ h.name; named = named ∙ h.named; view = w; is = is; runs = runs; part = part; waits = waiting; link = link ∙ h.link; batch = batch ∙ h.batch }
+  on w is n part waiting named link batch = record { name = name ∙ h.name; named = named ∙ h.named; view = w; is = is; runs = runs; part = part; waits = waiting; link = link ∙ h.link ∙ ap (λ l. l.armed) (sym linked); batch = batch ∙ h.batch }
 
   number : h.view.number ≡ d
   number = h.part.number
@@ -393,3 +394,23 @@ module _ {D S H : Type 0} {disks : Ghosts D} {sealers : Seals S} {hashes : Hashe
   powers w is goes none =
       let to = turn w (λ k p q. q ≡ powered p) goes in
       (went m (powered m.part), refl, went_on w is (powered m.part) (subst (λ q. DS w q) to.1 to.2) (drops w (powered m.part) none refl))
+
+-- ---- a link is armed
+
+module _ {D S H : Type 0} {disks : Ghosts D} {sealers : Seals S} {hashes : Hashes H} (seed : List ℕ) (names : Names) (d : ℕ) (f : Held) (c : Chain) (x y : Declared D S H disks sealers hashes) (m : Member) (h : DeclaredStands seed names d f c x m) where
+  pub loses : (side : Side) → y.name ≡ x.name → y.device ≡ x.device → y.waiting ≡ x.waiting → y.link.armed ≡ Some side → (n : Member) × (n ≡ record m { link = Some side }) × DeclaredStands seed names d f c y n
+  loses side name device waiting armed = (
+    record m { link = Some side },
+    refl,
+    record {
+      name = name ∙ h.name;
+      named = h.named;
+      view = h.view;
+      is = subst (λ e. IsView e h.view) (sym device) h.is;
+      runs = subst (λ e. ForSome e.session (Runs e.number)) (sym device) h.runs;
+      part = h.part;
+      waits = subst (λ k. WaitsFor sealers.sealed sealers.signed hashes.hashed seed names f h.view k m.waiting) (sym waiting) h.waits;
+      link = sym armed;
+      batch = h.batch;
+    },
+  )

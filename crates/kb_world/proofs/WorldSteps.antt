@@ -2,6 +2,7 @@
 use Rattle.std.proofs.Common.{◌≡◌, ℕ, ◌+◌, ◌-◌, ◌≤◌, Bool, true, false, [], ◌∷◌, ◌++◌, length, None, Some, Result, Ok, Err, inl, inr, refl, sym, ap, ◌∙◌, subst, arith}
 use Rattle.std.specs.Prelude.{slice_get, slice_set}
 use Rattle.std.proofs.lemmas.List.{length-set}
+use Rattle.kb_edge.specs.declared.link.Side.TheVariants.{Request as AtRequest, Reply as AtReply}
 use Rattle.kb_edge.specs.Goes.{Goes}
 use Rattle.kb_ops.specs.declared.requests.Request.{Request}
 use Rattle.kb_rules.specs.declared.report.Report.{Report}
@@ -12,9 +13,10 @@ use Rattle.kb_device.specs.Answers as answers
 use Rattle.kb_snap.specs.Puts.{Ask, PutStep}
 use Rattle.kb_device.specs.Parts.{Merger, Flight, Part, closed, CallStep, PickStep, SettleStep}
 use Rattle.kb_device.specs.Meets.{PartMeets, PutMeets}
-use Rattle.kb_world.specs.Statements.{AtRequest, AtReply, ByCall, ByPick, ByLand, ByNote, BySettle, ByOpen, On}
+use Rattle.kb_world.specs.Statements.{ByCall, ByPick, ByLand, ByNote, BySettle, ByOpen, On}
 use Rattle.kb_world.specs.Statements as statements
-use Rattle.kb_world.specs.Machine.{merger, went, landed, cut_off, LinkAfter, Member, State, ActStep}
+use Rattle.kb_device.specs.Links.{LinkAfter}
+use Rattle.kb_world.specs.Machine.{merger, went, landed, cut_off, Member, State, ActStep}
 use Rattle.kb_device.specs.Waits.{Waiting, Nothing, Asked, Answered, waiting_if, WaitingMeets}
 use Rattle.kb_world.specs.Good.{IsGood}
 use Rattle.kb_world.specs.RunLaws.{IsDevice}

@@ -1,6 +1,7 @@
 -- What a declared device's fetches and settles do.
 use Rattle.std.specs.Prelude.{◌≡◌, ℕ, ◌≤◌, Bool, true, false, List, length, Option, Some, None, Result, Ok, Err}
 use Rattle.kb_edge.specs.declared.disk.Disk.{Ghosts}
+use Rattle.kb_edge.specs.declared.link.Side.{Side}
 use Rattle.kb_seal.specs.declared.sealer.Sealer.{Ghosts as Seals}
 use Rattle.kb_blocks.specs.declared.hashing.BlockHash.{Ghosts as Hashes}
 use Rattle.kb_name.specs.Moments.{last_second}
@@ -30,6 +31,7 @@ use Rattle.kb_device.specs.declared.settled.SettleFault.TheVariants as settle
 use Rattle.kb_lines.specs.declared.lines.Line.{Line}
 use Rattle.kb_lines.specs.declared.lines.Line.TheVariants as line
 use Rattle.kb_world.specs.Statements.{ByFetch}
+use Rattle.kb_device.specs.Links.{LinkAfter}
 use Rattle.kb_world.specs.Machine.{Member, Does, went}
 use Rattle.kb_world.specs.Good.{MemberMeets}
 use Rattle.kb_world.specs.Standing.{DeclaredStands}
@@ -104,6 +106,7 @@ IsSettling (Ok merged) answer = answer ≡ Ok merged
 IsSettling (Err settle.Closed) answer = answer ≡ Err says.SettleFault.Closed
 IsSettling (Err settle.NoPlan) answer = answer ≡ Err says.NoPlan
 IsSettling (Err settle.Memory) answer = ⊥
+IsSettling (Err settle.LinkFault) answer = (lost : Option (Result ℕ PutFault)) × (answer ≡ Err (says.SettleFault.LinkFault lost))
 IsSettling (Err (settle.ByPut refusal)) answer = (fault : PutFault) × (let r : Result ℕ PutRefusal = Err refusal in Means r (Err fault)) × (answer ≡ Err (says.SettleFault.ByPut fault))
 IsSettling (Err settle.Stopped) answer = answer ≡ Err says.SettleFault.Stopped
 
@@ -119,11 +122,13 @@ LacksSettle (Err settle.Memory) = Unit {0}
 LacksSettle (Err (settle.ByPut why.Memory)) = Unit {0}
 LacksSettle answer = ⊥
 
--- the device settles at this moment by the first rule, over a link that loses nothing
+-- the device settles over its link, at this moment and by the first rule
 pub record SettledBy (moment d : ℕ) (c : Chain) (told : Result (ℕ × Report) says.SettleFault) (m n : Member) (c' : Chain) : Type 0 where
   pub part : Part
   pub step : SettleStep d (record { name = m.name; moment = moment; rule = 1 }) c m.part told c' part
-  pub member : n ≡ record (went m part) { link = None }
+  pub link : Option Side
+  pub after : LinkAfter m.link told link
+  pub member : n ≡ record (went m part) { link = link }
 
 -- want of memory changes nothing
 abbrev pub SettleSteps : ℕ → Result (ℕ × Report) SettleFault → ℕ → Chain → Member → Member → Chain → Type 0

@@ -7,6 +7,7 @@ use Rattle.kb_script.specs.declared.statements.Statement as script
 use Rattle.kb_script.specs.declared.statements.Statement.TheVariants as said
 use Rattle.kb_lines.specs.declared.lines.Line.{Line}
 use Rattle.kb_lines.specs.declared.lines.Line.TheVariants as line
+use Rattle.kb_lines.specs.declared.reasons.Reason.TheVariants as reason
 use Rattle.kb_world.specs.Statements.{Reply, Act}
 use Rattle.kb_world.specs.Statements as statements
 use Rattle.kb_world.specs.Machine.{most_devices, State, ActStep, Steps, Ends, Lacks, Stage, ToPick, last_reply, drain_stage}
@@ -68,6 +69,11 @@ is_picked l = false
 abbrev pub is_noted : Line → Bool
 is_noted (line.Noted name n) = true
 is_noted l = false
+
+-- the line of a put that its link didn't lose, or of none
+abbrev pub is_carried : Line → Bool
+is_carried (line.Refused name reason.LinkFault) = false
+is_carried l = true
 
 -- this stage, where it is so
 abbrev pub stage_if : Bool → Stage → Option Stage

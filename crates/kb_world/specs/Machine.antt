@@ -2,6 +2,7 @@
 -- the parts so far have replied says which comes next.
 use Rattle.std.specs.Prelude.{◌≡◌, ◌⊎◌, ℕ, ◌+◌, ◌-◌, ◌≤◌, ◌<◌, List, [], ◌∷◌, ◌++◌, length, true, false, Option, Some, None, Result, Ok, Err, slice_get, slice_set, replicate}
 use Rattle.std.specs.Option.{option_map}
+use Rattle.kb_edge.specs.declared.link.Side.{Side}
 use Rattle.kb_name.specs.Names.{is_device_name}
 use Rattle.kb_name.specs.Moments.{last_second}
 use Rattle.kb_ops.specs.declared.requests.Shown.{Shown}
@@ -15,9 +16,10 @@ use Rattle.kb_snap.specs.Puts.{Ask, PutStep, LostPut}
 use Rattle.kb_device.specs.Answers.{LookFault, Status, TellFault, Noted, NoteFault, SettleFault}
 use Rattle.kb_device.specs.Answers as answers
 use Rattle.kb_device.specs.Parts.{Merger, Part, Flight, new_part, closed, CallStep, LookStep, TellStep, PickStep, NoteStep, PullStep, FetchStep, SettleStep, OpenStep, BackupStep, RestoreStep, Lowered, armed, powered}
-use Rattle.kb_world.specs.Statements.{View, Side, AtRequest, AtReply, Turn, Act, SetSeed, Declare, DoFound, DoRekey, SetMoment, SetRule, See, On, ListChain, AuditChain, Statement, LandFault, Reply, Silent, Off, ByRekey, ByCall, ByLook, ByStatus, ByPick, ByLand, ByNote, ByPull, ByFetch, BySettle, ByOpen, ByBackup, ByRestore, ByPast, ByReclaim, Lists, Audited}
+use Rattle.kb_world.specs.Statements.{View, Turn, Act, SetSeed, Declare, DoFound, DoRekey, SetMoment, SetRule, See, On, ListChain, AuditChain, Statement, LandFault, Reply, Silent, Off, ByRekey, ByCall, ByLook, ByStatus, ByPick, ByLand, ByNote, ByPull, ByFetch, BySettle, ByOpen, ByBackup, ByRestore, ByPast, ByReclaim, Lists, Audited}
 use Rattle.kb_world.specs.Statements as statements
 use Rattle.kb_snap.specs.PastViews.{PastStep, ReclaimStep}
+use Rattle.kb_device.specs.Links.{lost_side, LinkAfter}
 use Rattle.kb_device.specs.Waits.{Answered, Asked, Nothing, Waiting, waiting_if}
 use Rattle.kb_snap.specs.Rekeys.{RekeyStep}
 
@@ -181,11 +183,6 @@ pub record NotesNone (reply : Reply) (was is : Member) : Type 0 where
   pub reply_is : reply ≡ ByNote (Err fault)
   pub member : is ≡ was
 
--- the side that is lost where this is what the folder answered
-abbrev pub lost_side : Option (Result ℕ PutFault) → Side
-lost_side None = AtRequest
-lost_side (Some answer) = AtReply
-
 -- the session ended and what waits is dropped, since the link lost a put; the link is disarmed
 abbrev pub cut_off : Member → Member
 cut_off m = record m { part = closed m.part; waiting = Nothing; link = None }
@@ -215,14 +212,6 @@ pub record PutsNone (reply : Reply) (was is : Member) : Type 0 where
   pub none : IsNotAsked was.waiting
   pub reply_is : reply ≡ ByLand (Err statements.NoFlight)
   pub member : is ≡ was
-
--- What a settle leaves of the link. Where it comes to a put, the request goes over the link and then the answer, and a
--- side that is lost is disarmed.
-abbrev pub LinkAfter : Option Side → Result (ℕ × Report) SettleFault → Option Side → Type 0
-LinkAfter was (Err answers.SettleFault.Closed) is = is ≡ was
-LinkAfter was (Err answers.SettleFault.NoPlan) is = is ≡ was
-LinkAfter was (Err (answers.SettleFault.LinkFault lost)) is = (was ≡ Some (lost_side lost)) × (is ≡ None)
-LinkAfter was answer is = (was ≡ None) × (is ≡ None)
 
 -- a device that merges now
 abbrev pub merger : State → Member → Merger

@@ -96,12 +96,11 @@ picked_line name (Err says.InFlight) = line.Refused name reason.InFlight
 picked_line name (Err says.PickFault.Branched) = line.Refused name reason.Branched
 picked_line name (Err says.Idle) = line.Refused name reason.Idle
 
--- a lost put has no line of its own before links are built
-abbrev pub landed_lines : List ℕ → Result ℕ LandFault → List Line
-landed_lines name (Ok n) = line.Landed name n ∷ []
-landed_lines name (Err statements.NoFlight) = line.Refused name reason.NoFlight ∷ []
-landed_lines name (Err (statements.ByFolder why)) = line.Refused name (put_reason why) ∷ []
-landed_lines name (Err (statements.LinkFault lost)) = []
+abbrev pub landed_line : List ℕ → Result ℕ LandFault → Line
+landed_line name (Ok n) = line.Landed name n
+landed_line name (Err statements.NoFlight) = line.Refused name reason.NoFlight
+landed_line name (Err (statements.LinkFault lost)) = line.Refused name reason.LinkFault
+landed_line name (Err (statements.ByFolder why)) = line.Refused name (put_reason why)
 
 abbrev pub noted_line : List ℕ → Result Noted NoteFault → Line
 noted_line name (Ok (says.Landed n)) = line.Noted name n
@@ -124,14 +123,13 @@ fetched_line name (Err says.FetchFault.Closed) = line.Refused name reason.Closed
 fetched_line name (Err says.FetchFault.NotMember) = line.Refused name reason.NotMember
 fetched_line name (Err says.NoBranch) = line.Refused name reason.NoBranch
 
--- a lost put has no line of its own before links are built
-abbrev pub settled_lines : List ℕ → Result (ℕ × Report) SettleFault → List Line
-settled_lines name (Ok merged) = line.Merged name merged.0 merged.1.copies merged.1.renamed merged.1.joined ∷ []
-settled_lines name (Err says.SettleFault.Closed) = line.Refused name reason.Closed ∷ []
-settled_lines name (Err says.NoPlan) = line.Refused name reason.NoPlan ∷ []
-settled_lines name (Err (says.SettleFault.LinkFault lost)) = []
-settled_lines name (Err (says.SettleFault.ByPut why)) = line.Refused name (put_reason why) ∷ []
-settled_lines name (Err says.SettleFault.Stopped) = line.Refused name reason.Stopped ∷ []
+abbrev pub settled_line : List ℕ → Result (ℕ × Report) SettleFault → Line
+settled_line name (Ok merged) = line.Merged name merged.0 merged.1.copies merged.1.renamed merged.1.joined
+settled_line name (Err says.SettleFault.Closed) = line.Refused name reason.Closed
+settled_line name (Err says.NoPlan) = line.Refused name reason.NoPlan
+settled_line name (Err (says.SettleFault.LinkFault lost)) = line.Refused name reason.LinkFault
+settled_line name (Err (says.SettleFault.ByPut why)) = line.Refused name (put_reason why)
+settled_line name (Err says.SettleFault.Stopped) = line.Refused name reason.Stopped
 
 abbrev pub opened_line : List ℕ → Result Status OpenFault → Line
 opened_line name (Ok status) = line.Opened name status.at status.queue status.last
@@ -174,11 +172,11 @@ printed names d (ByCall answer) = called_line (names d) answer ∷ []
 printed names d (ByLook answer) = shown_line (names d) answer ∷ []
 printed names d (ByStatus answer) = status_line (names d) answer ∷ []
 printed names d (ByPick answer) = picked_line (names d) answer ∷ []
-printed names d (ByLand answer) = landed_lines (names d) answer
+printed names d (ByLand answer) = landed_line (names d) answer ∷ []
 printed names d (ByNote answer) = noted_line (names d) answer ∷ []
 printed names d (ByPull answer) = pulled_line (names d) answer ∷ []
 printed names d (ByFetch answer) = fetched_line (names d) answer ∷ []
-printed names d (BySettle answer) = settled_lines (names d) answer
+printed names d (BySettle answer) = settled_line (names d) answer ∷ []
 printed names d (ByOpen answer) = opened_line (names d) answer ∷ []
 printed names d (Lists c) = line.Chain (length c) (generation_of c) ∷ revision_lines names 1 c
 printed names d (Audited n) = line.Whole n ∷ []

@@ -41,7 +41,7 @@ module _ {D S H : Type 0} {disks : Ghosts D} {sealers : Seals S} {hashes : Hashe
     pub runs : ForSome x.device.session (Runs x.device.number)
     pub part : DeviceStands sealers.sealed sealers.signed hashes.hashed seed names d f c view m.part
     pub waits : WaitsFor sealers.sealed sealers.signed hashes.hashed seed names f view x.waiting m.waiting
-    pub link : m.link ≡ None
+    pub link : m.link ≡ x.link.armed
     pub batch : m.batch ≡ 1
 
 module _ {M D : Type 0} {disks : Ghosts D} where

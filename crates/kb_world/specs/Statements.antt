@@ -1,5 +1,6 @@
 -- What a script says, and what the machine replies.
 use Rattle.std.specs.Prelude.{ℕ, List, Option, Result}
+use Rattle.kb_edge.specs.declared.link.Side.{Side}
 use Rattle.kb_ops.specs.declared.requests.Request.{Request}
 use Rattle.kb_ops.specs.declared.requests.Show.{Show}
 use Rattle.kb_ops.specs.declared.requests.Shown.{Shown}
@@ -9,11 +10,6 @@ use Rattle.kb_rules.specs.declared.report.Report.{Report}
 use Rattle.kb_snap.specs.Chains.{Chain}
 use Rattle.kb_device.specs.Answers.{Called, CallFault, LookFault, Status, TellFault, PickFault, Noted, NoteFault, PullFault, FetchFault, SettleFault, OpenFault, BackupFault, RestoreFault}
 use Rattle.kb_snap.specs.Answers.{PutFault, ReclaimFault, PastFault, RekeyFault}
-
--- which of a put's two ways over a link is lost
-pub data Side : Type 0 where
-  AtRequest : Side
-  AtReply : Side
 
 -- what a statement has one device do
 pub data Turn : Type 0 where

@@ -1,5 +1,5 @@
 -- What a declared device's turns do.
-use Rattle.std.specs.Prelude.{◌≡◌, ◌⊎◌, ℕ, ◌+◌, Bool, true, false, List, Result, Ok, Err}
+use Rattle.std.specs.Prelude.{◌≡◌, ◌⊎◌, ℕ, ◌+◌, Bool, true, false, List, Option, Result, Ok, Err}
 use Rattle.kb_edge.specs.declared.disk.Disk.{Ghosts}
 use Rattle.kb_seal.specs.declared.sealer.Sealer.{Ghosts as Seals}
 use Rattle.kb_blocks.specs.declared.hashing.BlockHash.{Ghosts as Hashes}
@@ -11,7 +11,7 @@ use Rattle.kb_snap.specs.Chains.{Chain}
 use Rattle.kb_device.specs.Parts.{CallStep, PickStep, NoteStep, PullStep, OpenStep, Lowered, armed, powered}
 use Rattle.kb_world.specs.Statements.{Reply, ByCall, ByPick, ByLand, ByNote, ByPull, ByOpen, LandFault}
 use Rattle.kb_world.specs.Statements as statements
-use Rattle.kb_world.specs.Machine.{Member, Does, PicksFlight, PicksNone, PutsAsk, PutsNone, NotesAnswer, NotesNone, landed, went}
+use Rattle.kb_world.specs.Machine.{Member, Does, PicksFlight, PicksNone, PutsAsk, LosesAsk, PutsNone, NotesAnswer, NotesNone, landed, went}
 use Rattle.kb_snap.specs.Lawful.{IsLawful}
 use Rattle.kb_world.specs.Good.{MemberMeets}
 use Rattle.kb_folder.specs.Chains.{Names}
@@ -81,6 +81,7 @@ OpenTurns answer d c m n = Does (OpenStep d c m.part) ByOpen (ByOpen (told_open 
 abbrev pub IsLanding : Result ℕ code.LandFault → Result ℕ LandFault → Type 0
 IsLanding (Ok n) answer = answer ≡ Ok n
 IsLanding (Err land.NoFlight) answer = answer ≡ Err statements.NoFlight
+IsLanding (Err land.LinkFault) answer = (lost : Option (Result ℕ PutFault)) × (answer ≡ Err (statements.LinkFault lost))
 IsLanding (Err (land.ByFolder refusal)) answer = (put : Result ℕ PutFault) × Means (Err refusal) put × (answer ≡ landed put)
 
 -- memory did not run out
@@ -91,7 +92,7 @@ IsLand answer = Unit {0}
 -- What is done to the folder and to the device that lands there; want of memory changes nothing.
 abbrev pub LandSteps : Result ℕ code.LandFault → ℕ → Chain → Member → Member → Chain → Type 0
 LandSteps (Err (land.ByFolder why.Memory)) d c m n c' = (n ≡ m) × (c' ≡ c)
-LandSteps answer d c m n c' = (told : Result ℕ LandFault) × IsLanding answer told × (PutsAsk c (ByLand told) m n c' ⊎ ((c' ≡ c) × PutsNone (ByLand told) m n))
+LandSteps answer d c m n c' = (told : Result ℕ LandFault) × IsLanding answer told × ((PutsAsk c (ByLand told) m n c' ⊎ LosesAsk c (ByLand told) m n c') ⊎ ((c' ≡ c) × PutsNone (ByLand told) m n))
 
 module _ {D S H : Type 0} {disks : Ghosts D} {sealers : Seals S} {hashes : Hashes H} where
   abbrev pub LandTurns : Held → Held → Declared D S H disks sealers hashes → Declared D S H disks sealers hashes → Result ℕ code.LandFault → Type 0

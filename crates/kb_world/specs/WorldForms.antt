@@ -1,11 +1,11 @@
 -- How a world stands for the plain machine's state, whatever stands for its parts: V are devices, F folders, Q the requests
 -- of puts.
 use Rattle.std.specs.Prelude.{◌≡◌, ℕ, Bool, true, false, ◌+◌, List, ◌++◌, length, Option, Some, Result, slice_get}
+use Rattle.kb_edge.specs.declared.link.Side.{Side}
 use Rattle.kb_snap.specs.Chains.{Chain}
 use Rattle.kb_snap.specs.Answers.{PutFault}
 use Rattle.kb_snap.specs.Puts.{Ask}
 use Rattle.kb_device.specs.Parts.{Part}
-use Rattle.kb_world.specs.Statements.{Side}
 use Rattle.kb_device.specs.Waits.{Waiting, Nothing, Asked, Answered}
 use Rattle.kb_world.specs.Machine.{Member, State}
 use Rattle.kb_world.specs.Good.{IsGood}

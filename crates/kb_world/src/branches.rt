@@ -105,8 +105,8 @@ impl<D: Disk, S: Sealer, H: BlockHash> Declared<D, S, H> {
         }
     }
 
-    /// Merges the branch into what was fetched, and puts the merge. How many rows were looked at stands in `looked` once
-    /// there is a merge, whatever becomes of the put.
+    /// Merges the branch into what was fetched, and puts the merge over the device's link. How many rows were looked at
+    /// stands in `looked` once there is a merge, whatever becomes of the put.
     pub fn settle(
         &mut self,
         alloc: Global,
@@ -126,7 +126,10 @@ impl<D: Disk, S: Sealer, H: BlockHash> Declared<D, S, H> {
         };
         *looked = made.looked;
         let report = made.report;
-        match self.device.settle(alloc, folder, made.table, moment) {
+        match self
+            .device
+            .settle(alloc, &mut self.link, folder, made.table, moment)
+        {
             Ok(number) => Ok((number, report)),
             Err(fault) => Err(fault),
         }

@@ -1,8 +1,7 @@
 //! A declared device with what waits for it between a pick and its note.
-ghost use Rattle.std.specs.Prelude.{◌≡◌, ◌+◌, ◌<◌, IfOk};
+ghost use Rattle.std.specs.Prelude.{◌≡◌, ◌+◌, ◌<◌, IfOk, Some};
 ghost use Rattle.kb_device.specs.Calling as calling;
 ghost use Rattle.kb_device.specs.Pulling as pulling;
-ghost use Rattle.kb_world.specs.Putting.{lacks_memory};
 ghost use Rattle.kb_world.specs.Turning.{IsNoteless};
 
 use crate::replies::LandFault;
@@ -10,9 +9,9 @@ use kb_blocks::BlockHash;
 use kb_chain::{FolderRequest, PutRefusal, hash_of};
 use kb_device::{
     CallFault, Called, Closed, Device, NoteFault, Noted, OpenFault, PickFault, PullFault,
-    PutAnswer, Status, landing_law, longer_law,
+    PutAnswer, Status, has_lost, landing_law, longer_law, put_over,
 };
-use kb_edge::{CrashDisk, Disk, Pick};
+use kb_edge::{CrashDisk, Disk, MemLink, Pick, Side};
 use kb_folder::{Folder, machine_law};
 use kb_name::{DeviceName, Moment};
 use kb_ops::Request;
@@ -27,12 +26,13 @@ pub enum Waiting {
     Answer(PutAnswer),
 }
 
-/// A declared device.
+/// A declared device, with its link to the folder.
 #[derive(Drop)]
 pub struct Declared<D: Disk, S: Sealer, H: BlockHash> {
     pub name: DeviceName,
     pub device: Device<D, S, H>,
     pub waiting: Waiting,
+    pub link: MemLink,
 }
 
 fn has_stopped(answer: &Result<Called, CallFault>) -> bool
@@ -95,7 +95,8 @@ impl<D: Disk, S: Sealer, H: BlockHash> Declared<D, S, H> {
         Ok((picked.seq, picked.number))
     }
 
-    /// Puts the request that waits; its answer waits then. Where memory runs out, the request waits on.
+    /// Puts the request that waits, over the device's link; its answer waits then. Where the link loses the request or the
+    /// answer, the session ends, and nothing waits. Where memory runs out, the request waits on.
     pub fn land(&mut self, folder: &mut Folder<S, H>) -> Result<u32, LandFault>
         requires { IsSound (held folder.old) }
         ensures sound { IsSound (held folder.new) }
@@ -109,10 +110,17 @@ impl<D: Disk, S: Sealer, H: BlockHash> Declared<D, S, H> {
         let Waiting::Request(request) = &self.waiting else {
             return Err(LandFault::NoFlight);
         };
-        let put = folder.put(request);
-        if lacks_memory(&put) {
-            return Err(LandFault::ByFolder(PutRefusal::Memory));
-        }
+        let put = match put_over(&mut self.link, folder, request) {
+            Ok(put) => put,
+            Err(fault) => {
+                if has_lost(fault) {
+                    self.device.leave();
+                    self.waiting = Waiting::Nothing;
+                    return Err(LandFault::LinkFault);
+                }
+                return Err(LandFault::ByFolder(PutRefusal::Memory));
+            }
+        };
         let hash = hash_of(request.revision.as_slice());
         self.waiting = Waiting::Answer(PutAnswer { number: put, hash });
         match put {
@@ -155,12 +163,13 @@ impl<D: Disk, S: Sealer, H: BlockHash> Declared<D, S, H> {
     {
         self.device.open(alloc, folder)
     }
-}
 
-fn lacks_memory(put: &Result<u32, PutRefusal>) -> bool
-    ensures { result ≡ lacks_memory put.now }
-{
-    matches!(put, Err(PutRefusal::Memory))
+    /// Arms the device's link: the next call of this side is lost.
+    pub fn lose(&mut self, side: Side)
+        ensures { (f : Held) → Turned f self.old self.new (λ d c m n. n ≡ record m { link = Some side }) }
+    {
+        self.link.arm(side);
+    }
 }
 
 impl<D: CrashDisk, S: Sealer, H: BlockHash> Declared<D, S, H> {

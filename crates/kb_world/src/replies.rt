@@ -10,14 +10,14 @@ ghost use Rattle.kb_device.specs.declared.answers.OpenFault.TheVariants as openi
 ghost use Rattle.kb_chain.specs.declared.states.PutRefusal.TheVariants as why;
 ghost use Rattle.kb_rekey.specs.declared.rekeying.RekeyFault.TheVariants as rekey;
 ghost use Rattle.kb_world.specs.Told.{told_call, told_look, told_tell, told_pick, told_pull, told_open, told_rekey, IsCalled, IsLook, IsPick, IsPulled, IsPull, IsOpening, IsRekeyed};
-ghost use Rattle.kb_world.specs.Printed.{plan_reason, show_reason, called_line, shown_line, status_line, picked_line, landed_lines, noted_line, pulled_line, opened_line, rekeyed_line};
+ghost use Rattle.kb_world.specs.Printed.{plan_reason, show_reason, called_line, shown_line, status_line, picked_line, landed_line, noted_line, pulled_line, opened_line, rekeyed_line};
 ghost use Rattle.kb_world.specs.Turning.{IsLanding, IsLand};
 ghost use Rattle.kb_world.specs.Putting.{IsReason};
 ghost use Rattle.kb_world.specs.declared.replies.LandFault.TheVariants as land;
 ghost use Rattle.kb_rules.specs.declared.report.Report as reports;
 ghost use Rattle.kb_device.specs.Answers as says;
 ghost use Rattle.kb_device.specs.declared.fetched.FetchFault.TheVariants as fetch;
-ghost use Rattle.kb_world.specs.Printed.{fetched_line, settled_lines};
+ghost use Rattle.kb_world.specs.Printed.{fetched_line, settled_line};
 ghost use Rattle.kb_world.specs.Branching.{told_fetch, IsFetch, IsFetched, IsSettling, IsSettled, LacksSettle};
 
 use kb_apply::ShowFault;
@@ -38,6 +38,8 @@ use kb_rules::Report;
 pub enum LandFault {
     /// No request waits.
     NoFlight,
+    /// The link lost the request or its answer, and the session has ended.
+    LinkFault,
     ByFolder(PutRefusal),
 }
 
@@ -180,13 +182,14 @@ fn put_reason(refusal: PutRefusal) -> Result<Reason, Memory>
 
 /// The line of a put, unless memory ran out.
 pub fn landed_line(device: DeviceName, answer: Result<u32, LandFault>) -> Result<Line, Memory>
-    ensures line { IfOk result (λ line. (told : Result ℕ machine.LandFault) → IsLanding answer told → landed_lines device told ≡ line ∷ []) }
+    ensures line { IfOk result (λ line. (told : Result ℕ machine.LandFault) → IsLanding answer told → line ≡ landed_line device told) }
     ensures answer { OnOk result (IsLand answer) }
     ensures memory { OnErr result (answer ≡ Err (land.ByFolder why.Memory)) }
 {
     match answer {
         Ok(revision) => Ok(Line::Landed { device, revision }),
         Err(LandFault::NoFlight) => Ok(refused(device, Reason::NoFlight)),
+        Err(LandFault::LinkFault) => Ok(refused(device, Reason::LinkFault)),
         Err(LandFault::ByFolder(why)) => {
             let reason = put_reason(why)?;
             Ok(refused(device, reason))
@@ -275,7 +278,7 @@ pub fn settled_line(
     device: DeviceName,
     answer: Result<(u32, Report), SettleFault>,
 ) -> Result<Line, Memory>
-    ensures line { IfOk result (λ line. (told : Result (ℕ × reports.Report) says.SettleFault) → IsSettling answer told → settled_lines device told ≡ line ∷ []) }
+    ensures line { IfOk result (λ line. (told : Result (ℕ × reports.Report) says.SettleFault) → IsSettling answer told → line ≡ settled_line device told) }
     ensures answer { OnOk result (IsSettled answer) }
     ensures memory { OnErr result (LacksSettle answer) }
 {
@@ -290,6 +293,7 @@ pub fn settled_line(
         Err(SettleFault::Closed) => Ok(refused(device, Reason::Closed)),
         Err(SettleFault::NoPlan) => Ok(refused(device, Reason::NoPlan)),
         Err(SettleFault::Memory) => Err(Memory),
+        Err(SettleFault::LinkFault) => Ok(refused(device, Reason::LinkFault)),
         Err(SettleFault::ByPut(why)) => {
             let reason = put_reason(why)?;
             Ok(refused(device, reason))

@@ -9,7 +9,7 @@ ghost use Rattle.kb_folder.specs.Held.{held};
 ghost use Rattle.kb_keys.specs.declared.policy.Action.TheVariants as action;
 ghost use Rattle.kb_snap.specs.Rekeys.{grant_of};
 ghost use Rattle.kb_script.specs.declared.statements.Statement.TheVariants as statement;
-ghost use Rattle.kb_world.specs.Doing.{is_picked, is_noted};
+ghost use Rattle.kb_world.specs.Doing.{is_picked, is_carried, is_noted};
 ghost use Rattle.kb_world.specs.Branching.{is_fetched};
 ghost use Rattle.kb_world.specs.Printed.{printed};
 
@@ -22,10 +22,10 @@ use crate::replies::{
 };
 use kb_blocks::Sha256Hash;
 use kb_device::{Device, landing_law, longer_law, plain_ops_law};
-use kb_edge::{DiskMaker, Memory, Pick};
+use kb_edge::{DiskMaker, MemLink, Memory, Pick, Side};
 use kb_folder::{Folder, beginning_law, machine_law, once_law};
 use kb_keys::{Role, Secrets};
-use kb_lines::Line;
+use kb_lines::{Line, Reason};
 use kb_name::{DeviceName, Moment};
 use kb_ops::{Request, Show};
 use kb_rekey::{found, grant, rekey_law, revoke};
@@ -74,6 +74,18 @@ fn is_picked(line: &Line) -> bool
     ensures { result ≡ is_picked line.now }
 {
     matches!(line, Line::Picked { .. })
+}
+
+fn is_carried(line: &Line) -> bool
+    ensures { result ≡ is_carried line.now }
+{
+    !matches!(
+        line,
+        Line::Refused {
+            reason: Reason::LinkFault,
+            ..
+        }
+    )
 }
 
 fn is_noted(line: &Line) -> bool
@@ -151,6 +163,7 @@ impl<M: DiskMaker> World<M> {
             name: shown,
             device: Device::new(number, name, secret, disk),
             waiting: Waiting::Nothing,
+            link: MemLink::new(),
         });
         Ok(())
     }
@@ -255,11 +268,11 @@ impl<M: DiskMaker> World<M> {
         Ok(line)
     }
 
-    // Puts the request that waits for a device.
+    // Puts the request that waits for a device, over its link.
     fn land(&mut self, number: u16) -> Result<Line, Memory>
         requires stands { IsStanding self.old }
         requires declared { IsOneOf (device_count self.old) number }
-        ensures step { IfOk result (λ line. GoesOn self.old self.new (λ names s t. Tells names number s (statements.On number statements.Land) line (λ reply. flush_stage (Some reply) ≡ Some ToNote) t)) }
+        ensures step { IfOk result (λ line. GoesOn self.old self.new (λ names s t. Tells names number s (statements.On number statements.Land) line (λ reply. (flush_stage (Some reply) ≡ stage_if (is_carried line) ToNote) × (drain_stage (Some reply) ≡ flush_stage (Some reply))) t)) }
         ensures memory { OnErr result (GoesOn self.old self.new (λ names s t. t ≡ s)) }
         ensures count { device_count self.new ≡ device_count self.old }
     {
@@ -287,7 +300,7 @@ impl<M: DiskMaker> World<M> {
         Ok(noted_line(name, answer))
     }
 
-    // Picks, lands and notes; where the pick is refused, it alone. Says whether an operation landed and was noted.
+    // Picks, lands and notes; where the pick is refused, it alone, and where the link lost the put, no note. Says whether an operation landed and was noted.
     fn flush(&mut self, number: u16, lines: &mut Vec<Line>) -> Result<bool, Memory>
         requires stands { IsStanding self.old }
         requires declared { IsOneOf (device_count self.old) number }
@@ -304,7 +317,11 @@ impl<M: DiskMaker> World<M> {
             return Ok(false);
         }
         let second = self.land(number)?;
+        let carried = is_carried(&second);
         lines.push_reserved(second);
+        if !carried {
+            return Ok(false);
+        }
         let third = self.note(number)?;
         let noted = is_noted(&third);
         lines.push_reserved(third);
@@ -358,6 +375,15 @@ impl<M: DiskMaker> World<M> {
     {
         let declared = &mut self.devices[number as usize - 1];
         declared.fuse(steps);
+    }
+
+    // Arms a device's link.
+    fn lose(&mut self, number: u16, side: Side)
+        requires { IsOneOf (device_count self.old) number }
+        ensures { GoesOn self.old self.new (λ names s t. ActStep s (statements.On number (statements.Lose side)) statements.Silent t) }
+    {
+        let declared = &mut self.devices[number as usize - 1];
+        declared.lose(side);
     }
 
     // Cuts a device's power.
@@ -563,6 +589,10 @@ impl<M: DiskMaker> World<M> {
             }
             Statement::Fuse { device, steps } => {
                 self.arm(*device, *steps);
+                Ok(room)
+            }
+            Statement::Lose { device, side } => {
+                self.lose(*device, *side);
                 Ok(room)
             }
             Statement::Power { device, pick } => {

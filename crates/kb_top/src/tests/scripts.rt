@@ -210,3 +210,18 @@ fn devices_are_declared_beside_a_flight(rt: HostRuntime) -> Result<(), Fail> {
     assert!(rt; runs(rt.alloc(), script, text)?);
     Ok(())
 }
+
+#[test]
+fn a_lost_reply_counts_and_a_lost_request_does_not(rt: HostRuntime) -> Result<(), Fail> {
+    let reply =
+        "mkfile laptop /f\nlose laptop reply\nflush laptop\nopen laptop\nmkfile laptop /g\nflush laptop\n";
+    let landed =
+        "laptop: done 1\nlaptop: picked 1 as 2\nlaptop: refused LinkFault\nlaptop: open at 2 queue 0 last 1\nlaptop: done 2\nlaptop: picked 2 as 3\nlaptop: landed 3\nlaptop: noted 3\n";
+    assert!(rt; prints(rt.alloc(), 65_536, reply, landed)?);
+    let request =
+        "mkfile laptop /f\nlose laptop request\nflush laptop\nopen laptop\nmkfile laptop /g\nflush laptop\n";
+    let waiting =
+        "laptop: done 1\nlaptop: picked 1 as 2\nlaptop: refused LinkFault\nlaptop: open at 1 queue 1 last 1\nlaptop: done 2\nlaptop: picked 1 as 2\nlaptop: landed 2\nlaptop: noted 2\n";
+    assert!(rt; prints(rt.alloc(), 65_536, request, waiting)?);
+    Ok(())
+}

@@ -25,9 +25,9 @@ returns-clause-step g c names s stood may =
     let stands = c.new-2.ensures.stands in
     let u = stands.0 in
     let is = stands.1 in
-    declares w _ c.beginning_law.ensures.registers c.once_law.ensures (record { name = c.in_ok-shown.shown; device = c.new-2.result; waiting = kept.Nothing }) c.args.name.now c.args.size
-    (c.push_reserved.ensures.items ∙ (λ i. c.in_ok-reserve.ensures.items i ++ record { name = c.in_ok-shown.shown; device = c.new-2.result; waiting = kept.Nothing } ∷ []))
-    refl refl c.in_ok-shown.ensures.cases refl
+    declares w _ c.beginning_law.ensures.registers c.once_law.ensures (record { name = c.in_ok-shown.shown; device = c.new-2.result; waiting = kept.Nothing; link = c.new-3.result }) c.args.name.now c.args.size
+    (c.push_reserved.ensures.items ∙ (λ i. c.in_ok-reserve.ensures.items i ++ record { name = c.in_ok-shown.shown; device = c.new-2.result; waiting = kept.Nothing; link = c.new-3.result } ∷ []))
+    refl refl c.in_ok-shown.ensures.cases refl (ap (λ l. l.armed) c.new-3.ensures)
     (c.len.result + 1) behind
     (c.register_reserved.ensures ∙ (λ i. registered_with (c.in_ok-reserve-2.ensures.same i) (secret i)))
     c.new-2.ensures.runs u is

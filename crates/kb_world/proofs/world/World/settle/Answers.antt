@@ -1,7 +1,7 @@
 use Rattle.std.proofs.Common.{◌≡◌, ◌∷◌, [], ◌-◌, ◌<◌, Some, None, Ok, Err, OnErr, length, refl, sym, ap, ◌∙◌, subst, arith}
 use Rattle.std.specs.Prelude.{slice_get}
 use Rattle.std.proofs.lemmas.Option.{slice_get_read}
-use Rattle.kb_world.specs.Printed.{settled_lines}
+use Rattle.kb_world.specs.Printed.{settled_line}
 use Rattle.kb_world.proofs.Worlds.{runs_at, on_err, stays_so}
 use Rattle.kb_world.proofs.BranchWorlds.{number_at, merges_at, settles_device, settle_lacks}
 use Rattle.kb_world.proofs.world.World.settle.Goals as goal
@@ -40,7 +40,7 @@ returns-clause-step g c =
     let within : c.args.number - 1 < length w.devices.items = (let low = c.requires.declared.0 in let high = c.requires.declared.1 in omega (arith, low, high)) in
     let found : slice_get w.devices.items (c.args.number - 1) ≡ Some x = slice_get_read w.devices.items (length w.devices.items) (c.args.number - 1) x refl within c.index_mut-declared.ensures.value in
     let named = c.in_ok-name.ensures x found in
-    settles_device w _ c.args.number x c.settle-answer.new.self c.requires.declared.0 found refl refl refl (λ seed names. c.longer_law.ensures seed names) (λ seed names. c.machine_law.ensures.stay seed names) (λ seed names. c.landing_law.ensures.stays seed names) c.settle-answer.result c.settle-answer.ensures c.in_ok-line.line (λ told is. ap (λ n. settled_lines n told) (sym named) ∙ c.in_ok-line.ensures.line told is) c.in_ok-line.ensures.answer
+    settles_device w _ c.args.number x c.settle-answer.new.self c.requires.declared.0 found refl refl refl (λ seed names. c.longer_law.ensures seed names) (λ seed names. c.machine_law.ensures.stay seed names) (λ seed names. c.landing_law.ensures.stays seed names) c.settle-answer.result c.settle-answer.ensures c.in_ok-line.line (λ told is. c.in_ok-line.ensures.line told is ∙ ap (λ n. settled_line n told) named) c.in_ok-line.ensures.answer
 
 pub returns-in_err-line-clause-memory : goal.returns-in_err-line-clause-memory
 returns-in_err-line-clause-memory g c =

@@ -157,7 +157,7 @@ pub one_line-requires-in-Land-clause-room : goal.one_line-requires-in-Land-claus
 one_line-requires-in-Land-clause-room g c = c.in_ok-room.ensures.room
 
 pub returns-in_ok-line-in-Land-clause-step : goal.returns-in_ok-line-in-Land-clause-step
-returns-in_ok-line-in-Land-clause-step g c = one_part c.args.self.now c.land.new.self c.args.statement.now (said.Land c.in-Land.device) c.in-Land.is c.in-Land.device (statements.On c.in-Land.device statements.Land) LandSays c.in_ok-line-in-Land.line c.one_line-in-Land.result.items refl refl c.one_line-in-Land.ensures (λ names s h may. c.in_ok-line-in-Land.ensures.step names s h)
+returns-in_ok-line-in-Land-clause-step g c = one_part c.args.self.now c.land.new.self c.args.statement.now (said.Land c.in-Land.device) c.in-Land.is c.in-Land.device (statements.On c.in-Land.device statements.Land) (LandSays c.in_ok-line-in-Land.line) c.in_ok-line-in-Land.line c.one_line-in-Land.result.items refl refl c.one_line-in-Land.ensures (λ names s h may. c.in_ok-line-in-Land.ensures.step names s h)
 
 pub note-requires-clause-stands : goal.note-requires-clause-stands
 note-requires-clause-stands g c = stands_then c.args.self.now c.args.statement.now (said.Note c.in-Note.device) c.in-Note.is c.requires
@@ -362,6 +362,12 @@ arm-requires-clause-stands g c = stands_then c.args.self.now c.args.statement.no
 
 pub arm-requires-clause-declared : goal.arm-requires-clause-declared
 arm-requires-clause-declared g c = declared_then c.args.self.now c.args.statement.now (said.Fuse c.in-Fuse.device c.in-Fuse.steps) c.in-Fuse.is c.requires c.in-Fuse.device (λ may. may)
+
+pub lose-requires : goal.lose-requires
+lose-requires g c = declared_then c.args.self.now c.args.statement.now (said.Lose c.in-Lose.device c.in-Lose.side) c.in-Lose.is c.requires c.in-Lose.device (λ may. may)
+
+pub returns-in-Lose-clause-step : goal.returns-in-Lose-clause-step
+returns-in-Lose-clause-step g c = one_silent c.args.self.now c.lose.new.self c.args.statement.now (said.Lose c.in-Lose.device c.in-Lose.side) c.in-Lose.is (statements.On c.in-Lose.device (statements.Lose c.in-Lose.side)) c.in_ok-room.room.items refl c.in_ok-room.ensures.empty (λ names s h may. c.lose.ensures names s h)
 
 pub returns-in-Fuse-clause-step : goal.returns-in-Fuse-clause-step
 returns-in-Fuse-clause-step g c = one_silent c.args.self.now c.arm.new.self c.args.statement.now (said.Fuse c.in-Fuse.device c.in-Fuse.steps) c.in-Fuse.is (statements.On c.in-Fuse.device (statements.Fuse c.in-Fuse.steps)) c.in_ok-room.room.items refl c.in_ok-room.ensures.empty (λ names s h may. c.arm.ensures names s h)
