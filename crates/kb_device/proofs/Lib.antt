@@ -69,4 +69,5 @@ pub mod Patched
 pub mod Copied
 pub mod OldFiles
 pub mod Requested
+pub mod Beside
 pub mod Counting
