@@ -71,3 +71,4 @@ pub mod OldFiles
 pub mod Requested
 pub mod Beside
 pub mod Counting
+pub mod Few

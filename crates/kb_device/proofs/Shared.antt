@@ -6,6 +6,7 @@ use Rattle.std.specs.FinMap.{get, insert}
 use Rattle.kb_rules.proofs.Basics.{bytes_same, bytes_self}
 use Rattle.kb_ops.specs.Rows.{Look}
 use Rattle.kb_blocks.specs.Stores as stores
+use Rattle.kb_blocks.specs.declared.store.PutFault.{PutFault}
 use Rattle.kb_blocks.specs.declared.store.PutFault.TheVariants as put
 use Rattle.kb_blocks.proofs.Puts.{at_insert}
 use Rattle.kb_files.specs.Opens.{Blocks, Keys, Opens}
@@ -83,9 +84,10 @@ met_colliding hashed m (b ∷ made) id named (inr (free, later)) =
     met_colliding hashed (insert m (hashed b) b) made id (λ x. at_insert m (hashed b) b id (λ o. o ≡ Some x → id ≡ hashed x) (λ same e. let is : b ≡ x = cc in same ∙ ap hashed is) (named x)) later
 
 -- what a store refused to take for two blocks of one hash
-pub takes_none : (hashed : List ℕ → List ℕ) (was : Cache) (m new : stores.Blocks) (made : List (List ℕ)) (id : List ℕ) → was ≡ Some m → stores.PutsAll hashed {X = Unit {0}} m new made (Err (put.Collision id)) → ((b : List ℕ) → get new id ≡ Some b → id ≡ hashed b) → Takes hashed was made None
-takes_none hashed was m new made id first puts named = subst (λ (c : Cache). Takes hashed c made None) (sym first)
-    ((id, puts.0), met_colliding hashed m made id (λ b at. named b (ap (λ (n : stores.Blocks). get n id) puts.1 ∙ at)) puts.0)
+pub takes_none : (hashed : List ℕ → List ℕ) (was now : Cache) (m new : stores.Blocks) (made : List (List ℕ)) (fault : PutFault) (id : List ℕ) → was ≡ Some m → now ≡ None → fault ≡ put.Collision id → stores.PutsAll hashed {X = Unit {0}} m new made (Err fault) → ((b : List ℕ) → get new id ≡ Some b → id ≡ hashed b) → Takes hashed was made now
+takes_none hashed was now m new made fault id first gone is puts named =
+    let p = subst (λ e. stores.PutsAll hashed {X = Unit {0}} m new made (Err e)) is puts in
+    subst (λ (c : Cache). Takes hashed was made c) (sym gone) (subst (λ (c : Cache). Takes hashed c made None) (sym first) ((id, p.0), met_colliding hashed m made id (λ b at. named b (ap (λ (n : stores.Blocks). get n id) p.1 ∙ at)) p.0))
 
 -- what a store took, its cache took
 pub takes_some : (hashed : List ℕ → List ℕ) (was : Cache) (m new : stores.Blocks) (made : List (List ℕ)) → was ≡ Some m → stores.PutsAll hashed {X = Unit {0}} m new made (Ok tt) → stores.Keeps m new → Takes hashed was made (Some new)
