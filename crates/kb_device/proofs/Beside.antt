@@ -130,7 +130,7 @@ size_at : (t : Tree) (kept : Kept) (change : Change) (old : OldFile) → WasAt t
 size_at t kept (Create parent name kind bytes) old at = tt
 size_at t kept (Remove node) old at = tt
 size_at t kept (Rename node parent name replaced) old at = tt
-size_at t kept (Sync node offset bytes size) old at = (at.row, at.there, at.sized)
+size_at t kept (Sync node offset bytes size) old at = (at.row, (at.there, at.sized))
 size_at t kept (Exec node on) old at = tt
 size_at t kept (Touch node mtime) old at = tt
 

@@ -1,5 +1,5 @@
 -- Blocks that were copied, and what they hold.
-use Rattle.std.proofs.Common.{◌≡◌, ℕ, ◌+◌, ◌<◌, take, get_or, suc, true, false, cond, List, [], ◌∷◌, length, Option, Some, None, is_some, Result, Ok, Err, OnOk, IfErr, inl, inr, refl, sym, ap, subst, ◌∙◌}
+use Rattle.std.proofs.Common.{◌≡◌, ℕ, ◌+◌, ◌<◌, take, get_or, suc, true, false, cond, List, [], ◌∷◌, length, Option, Some, None, is_some, Result, Ok, Err, OnOk, inl, inr, refl, sym, ap, subst, ◌∙◌}
 use Rattle.std.specs.List.{AllByRecursion}
 use Rattle.std.proofs.lemmas.List.{take_more}
 use Rattle.std.specs.FinMap.{get, insert, empty, get-insert, get-empty}
@@ -31,10 +31,10 @@ use Rattle.kb_snap.specs.Pointers.{Kept, AllHold}
 use Rattle.kb_snap.proofs.Forms.{each_holds}
 use Rattle.kb_snap.proofs.Kept.{row_within, file_within}
 use Rattle.kb_ranges.specs.Patches.{StaysIn}
-use Rattle.kb_device.specs.Caches.{Cache, known_in, Copies, IsCopied, FileCopied, KindCopied, RowCopied, Caches, MetAt, told}
+use Rattle.kb_device.specs.Caches.{Cache, known_in, Copies, IsCopied, FileCopied, KindCopied, RowCopied, Caches, told}
 use Rattle.kb_device.specs.declared.caching.CopyFault.{CopyFault}
 use Rattle.kb_device.proofs.MergedPointers.{all_next, of_tree}
-use Rattle.kb_device.proofs.Shared.{known_both, met_taken}
+use Rattle.kb_device.proofs.Shared.{known_both}
 
 -- ---- one block
 
@@ -59,14 +59,6 @@ module _ (hashed : List ℕ → List ℕ) (store old new : stores.Blocks) (id by
     by : (r : Result (List ℕ) PutFault) → stores.Puts hashed old new bytes r → OnOk (told r) ((b : List ℕ) → get store id ≡ Some b → get new id ≡ Some b)
     by (Ok x) p = λ b at. ap (λ (m : stores.Blocks). get m id) p.2 ∙ ap (get (insert old x bytes)) (own ∙ sym p.0) ∙ put_here old x bytes ∙ sym there ∙ at
     by (Err (put.Collision at_id)) p = tt
-    by (Err put.Memory) p = tt
-
-  -- and why one wasn't
-  pub put_met : ((b : List ℕ) → get old id ≡ Some b → id ≡ hashed b) → (r : Result (List ℕ) PutFault) (a : Result (Unit {0}) CopyFault) → a ≡ told r → stores.Puts hashed old new bytes r → IfErr a (MetAt hashed)
-  put_met named r a is puts = subst (λ x. IfErr x (MetAt hashed)) (sym is) (by r puts) where
-    by : (r : Result (List ℕ) PutFault) → stores.Puts hashed old new bytes r → IfErr (told r) (MetAt hashed)
-    by (Ok x) p = tt
-    by (Err (put.Collision at_id)) p = met_taken hashed (get old id) id bytes (subst (λ q. stores.IsTaken (get old q) bytes) (p.0 ∙ sym own) p.1) named own
     by (Err put.Memory) p = tt
 
 -- ---- a file's blocks

@@ -21,7 +21,7 @@ use Rattle.kb_folder.specs.Stands.{keys_to}
 use Rattle.kb_folder.specs.Puts.{Held}
 use Rattle.kb_device.specs.Journals.{Journal, plain}
 use Rattle.kb_device.specs.Parts.{Part, IsOpenAt}
-use Rattle.kb_device.specs.Caches.{Cache, known_in, TwoOfOneHash, HasOrMet}
+use Rattle.kb_device.specs.Caches.{Cache, known_in}
 use Rattle.kb_device.specs.Counting.{reach, IsPlainWrite, TakesFew}
 use Rattle.kb_device.specs.Patching.{MakesFew, StepMakes, IsOldOf, HasSize}
 use Rattle.kb_device.specs.Inside.{Inside, IsRunning, PointsBeside, HasDone}
@@ -44,6 +44,12 @@ same_op op other rest more e = cc
 row_one : (r row : Row) → Some r ≡ Some row → r ≡ row
 row_one r row e = cc
 
+cached : (cache : Cache) → IsSome cache → (m : stores.Blocks) × (cache ≡ Some m)
+cached (Some m) has = (m, refl)
+
+same_inside : (u s : Inside) → Some u ≡ Some s → u ≡ s
+same_inside u s e = cc
+
 -- the journal that an open part has is one
 one_journal : (j k : Journal) → j ∷ [] ≡ k ∷ [] → j ≡ k
 one_journal j k e = cc
@@ -60,7 +66,7 @@ module _ (sealed : List ℕ → List ℕ → List ℕ) (hashed : List ℕ → Li
 
 module _ (sealed signed : List ℕ → List ℕ → List ℕ) (hashed : List ℕ → List ℕ) (few_law : TakesFew sealed hashed) (seed : List ℕ) (names : Names) where
   picked_few : (v : Member) (secret : List ℕ) (s t : Inside) → v.inside ≡ Some s → IsRunning s → (picked : Picked) → Picks sealed signed hashed secret s picked t → PicksFew sealed signed hashed seed names v picked
-  picked_few v secret s t was running picked picks d f c p j op rest node offset bytes long row path stands open first is there found plain_write = by s.cache refl where
+  picked_few v secret s t was running picked picks d f c p j op rest node offset bytes long row path u at has stands open first is there found plain_write = by (cached s.cache (subst (λ (x : Inside). IsSome x.cache) (same_inside u s (sym at ∙ was)) has)) where
     g : GoesAhead s t
     g = picks.ahead
 
@@ -113,12 +119,11 @@ module _ (sealed signed : List ℕ → List ℕ → List ℕ) (hashed : List ℕ
     held : (m : stores.Blocks) → s.cache ≡ Some m → FileHeld sealed hashed (get m) (key_at t.ring) old.size old.ptr few
     held m has = (subst (λ (x : Cache). StaysIn (known_in x (get f.blocks)) (get m)) (sym has) (known_cached (Some m) (get f.blocks)), over.file)
 
-    by : (cache : Cache) → s.cache ≡ cache → (length picked.request.blocks ≤ 3 * (reach (length row.bytes) offset bytes long / 4096 + 2) + length path) ⊎ TwoOfOneHash hashed
-    by None has = inr (subst (HasOrMet hashed) has h.remembers.cached)
-    by (Some m) has = inl (subst (λ n. length picked.request.blocks ≤ 3 * (reach n offset bytes long / 4096 + 2) + length path) (sym size)
+    by : (m : stores.Blocks) × (s.cache ≡ Some m) → length picked.request.blocks ≤ 3 * (reach (length row.bytes) offset bytes long / 4096 + 2) + length path
+    by (m, is_there) = subst (λ n. length picked.request.blocks ≤ 3 * (reach n offset bytes long / 4096 + 2) + length path) (sym size)
         (few_law (get m) (key_at t.ring) t.generation t.base picks.left node old offset bytes long picked.request.blocks picks.aloft.kept path few picks.made.made.formed
-        (made_few sealed hashed few_law m (key_at t.ring) t.generation t.base picks.left node offset bytes long old picked.request.blocks picks.aloft.kept s.cache g.op.change t.written has change kept.1 picks.made.few)
-        beside.0 (subst (λ (u : Tree). find_from u root path ≡ Ok node) (sym base) found) (held m has) (subst (λ n. IsPlainWrite n offset bytes long) size plain_write)))
+        (made_few sealed hashed few_law m (key_at t.ring) t.generation t.base picks.left node offset bytes long old picked.request.blocks picks.aloft.kept s.cache g.op.change t.written is_there change kept.1 picks.made.few)
+        beside.0 (subst (λ (u : Tree). find_from u root path ≡ Ok node) (sym base) found) (held m is_there) (subst (λ n. IsPlainWrite n offset bytes long) size plain_write))
 
   pub pick_is_few : (v : Member) (secret : List ℕ) (s t : Inside) → v.inside ≡ Some s → IsRunning s → (r : Result Picked PickFault) → PickDoes sealed signed hashed secret s t r → IfOk r (PicksFew sealed signed hashed seed names v)
   pick_is_few v secret s t was running (Ok picked) picks = picked_few v secret s t was running picked picks

@@ -20,7 +20,7 @@ use Rattle.kb_folder.specs.Held.{is_member}
 use Rattle.kb_folder.specs.Reading.{is_among, places_behind}
 use Rattle.kb_folder.specs.Goes.{HasChain}
 use Rattle.kb_folder.proofs.Readings.{covered, chain_of}
-use Rattle.kb_device.specs.Caches.{Cache, known_in, HasOrMet}
+use Rattle.kb_device.specs.Caches.{Cache, known_in}
 use Rattle.kb_device.specs.Remembering.{hash_at}
 use Rattle.kb_device.specs.Stands.{RingStands}
 use Rattle.kb_device.specs.Heads.{Read, ReadStands}
@@ -118,9 +118,9 @@ module _ (sealed signed : List ℕ → List ℕ → List ℕ) (hashed : List ℕ
 
     -- what was read of it
     pub head_stands : (number : ℕ) (tree : Tree) (kept : Kept) (cache : Cache) (ring : Keys) → number ≡ f.state.length → RingStands seed most ring → tree ≡ tree_at (there.plain ∷ there.older) (length (there.plain ∷ there.older))
-        → AllHold (Opens sealed hashed (known_in cache (get f.blocks)) (keys_to seed (generation_in (there.plain ∷ there.older)))) (look tree) kept → HasOrMet hashed cache
+        → AllHold (Opens sealed hashed (known_in cache (get f.blocks)) (keys_to seed (generation_in (there.plain ∷ there.older)))) (look tree) kept
         → (let r : Read = record { number = number; hash = sha256 item; tree = tree; kept = kept; cache = cache; ring = ring; generation = most } in ReadStands sealed hashed seed f c r) × (number ≡ length c)
-    head_stands number tree kept cache ring number_is stands tree_is held cached =
+    head_stands number tree kept cache ring number_is stands tree_is held =
         let len = chain_length sealed signed hashed seed names f c has in
         let counted = has.stands.sound.counted in
         let place = place_is in
@@ -137,7 +137,6 @@ module _ (sealed signed : List ℕ → List ℕ → List ℕ) (hashed : List ℕ
               generation_is = most_is ∙ ap (generation_from 0) (sym has.turned) ∙ ap (generation_from 0) (sym (take_all number c (omega (arith, number_c))));
               held = subst (λ t. AllHold (Opens sealed hashed (known_in cache (get f.blocks)) (keys_to seed most)) (look t) kept) tree_c
                   (subst (λ n. AllHold (Opens sealed hashed (known_in cache (get f.blocks)) (keys_to seed n)) (look tree) kept) (sym (most_is ∙ ap generation_in whole)) held);
-              cached = cached;
             };
             ring = stands;
           },

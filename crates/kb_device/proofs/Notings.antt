@@ -167,7 +167,6 @@ module _ (sealed signed : List ℕ → List ℕ → List ℕ) (hashed : List ℕ
           hash_is = stands.hash_is;
           generation_is = session.remembers.generation_is ∙ sym (ap (λ n. generation_from 0 (take n c)) number_is ∙ step_generation c j.known step.revision step.rest (take a.flight.count j.queue) step.split step.deed);
           held = subst (λ t. AllHold (Opens sealed hashed (known_in s.cache (get f.blocks)) (keys_to seed s.generation)) (look t) a.kept) (sym tree_is) stands.held;
-          cached = session.remembers.cached;
         };
         held = stands.held;
         written = λ op rest old queue one is. cc;
@@ -215,7 +214,7 @@ module _ (sealed signed : List ℕ → List ℕ → List ℕ) (hashed : List ℕ
                   base = session.base;
                   shown = session.shown;
                   role = session.role;
-                  remembers = record { within = r.within; hash_is = r.hash_is; generation_is = r.generation_is; held = r.held; cached = r.cached };
+                  remembers = record { within = r.within; hash_is = r.hash_is; generation_is = r.generation_is; held = r.held };
                   held = session.held;
                   written = session.written;
                   ring = session.ring;

@@ -14,7 +14,7 @@ use Rattle.kb_chain.specs.declared.revisions.Revision.{Revision}
 use Rattle.kb_snap.specs.Chains as plain
 use Rattle.kb_snap.specs.Chains.{Chain}
 use Rattle.kb_snap.specs.Members.{generation_at, roles_at}
-use Rattle.kb_device.specs.Caches.{Cache, known_in, HasOrMet}
+use Rattle.kb_device.specs.Caches.{Cache, known_in}
 use Rattle.kb_device.specs.Disks as front
 use Rattle.kb_folder.specs.Chains.{Names, Back, tree_at, role_in, generation_in}
 use Rattle.kb_folder.specs.Stands.{keys_to}
@@ -83,7 +83,7 @@ module _ (sealed signed : List ℕ → List ℕ → List ℕ) (hashed : List ℕ
 
   -- what was read of it
   module _ (number : ℕ) (e : number ≡ r + 1) (item : List ℕ) (item_is : p.bytes ≡ item) (lt : r < length back) (tree : Tree) (kept : Kept) (cache : Cache) (ring : Keys) (stands : RingStands seed read.generation ring)
-      (tree_is : tree ≡ tree_at (p.plain ∷ p.older) (length (p.plain ∷ p.older))) (held : AllHold (Opens sealed hashed (known_in cache (get f.blocks)) (keys_to seed (generation_in (p.plain ∷ p.older)))) (look tree) kept) (cached : HasOrMet hashed cache) where
+      (tree_is : tree ≡ tree_at (p.plain ∷ p.older) (length (p.plain ∷ p.older))) (held : AllHold (Opens sealed hashed (known_in cache (get f.blocks)) (keys_to seed (generation_in (p.plain ∷ p.older)))) (look tree) kept) where
     tree_c : tree ≡ plain.tree_at c number
     tree_c = tree_is ∙ sym (tree_there back p.plain p.older r p.is p.size) ∙ (λ i. plain.tree_at (sym has.turned i) (sym e i))
 
@@ -104,7 +104,6 @@ module _ (sealed signed : List ℕ → List ℕ → List ℕ) (hashed : List ℕ
         generation_is = generation_is ∙ sym (generation_there back p.plain p.older r p.is p.size) ∙ (λ i. generation_at (sym has.turned i) (sym e i));
         held = subst (λ t. AllHold (Opens sealed hashed (known_in cache (get f.blocks)) (keys_to seed read.generation)) (look t) kept) tree_c
             (subst (λ n. AllHold (Opens sealed hashed (known_in cache (get f.blocks)) (keys_to seed n)) (look tree) kept) (sym generation_is) held);
-        cached = cached;
       };
       ring = stands;
     }

@@ -33,11 +33,11 @@ use Rattle.kb_device.specs.Remembering.{hash_at}
 use Rattle.kb_device.specs.Stepping.{IsStepRequest}
 use Rattle.kb_ranges.specs.Patches.{StaysIn}
 use Rattle.kb_files.specs.Files.{Vault}
-use Rattle.kb_device.specs.Caches.{Cache, known_in, HasOrMet}
+use Rattle.kb_device.specs.Caches.{Cache, known_in}
 use Rattle.kb_device.specs.Patching.{IsOldOf, HasSize, Grounds}
 use Rattle.kb_device.specs.declared.patching.OldFile.{OldFile}
 use Rattle.kb_device.proofs.OldFiles.{old_within, was_over}
-use Rattle.kb_device.proofs.Shared.{known_there, known_cached, known_taken, takes_met, all_within}
+use Rattle.kb_device.proofs.Shared.{known_there, known_cached, known_taken, all_within}
 use Rattle.kb_device.proofs.Beside.{done_sized}
 use Rattle.kb_device.proofs.Touched.{leaves_hold}
 use Rattle.kb_device.proofs.Step.{key_now}
@@ -133,8 +133,8 @@ module _ (sealed signed : List ℕ → List ℕ → List ℕ) (hashed : List ℕ
 
   -- a session whose base table went ahead stands for the part with its flight
   pub ahead_stands : (f : Held) (c : Chain) (p : Part) (s t : Inside) (aloft : Option Aloft) (flight : Option Flight) → SessionStands sealed signed hashed seed names f c s p → (g : GoesAhead s t) → t ≡ with_flight s t aloft → IsRunning t
-      → StaysIn (known_in s.cache (get f.blocks)) (known_in t.cache (get f.blocks)) → HasOrMet hashed t.cache → flight ≡ option_map (λ (a : Aloft). a.flight) aloft → SessionStands sealed signed hashed seed names f c t (record p { flight = flight })
-  ahead_stands f c p s t aloft flight h g same running more met flies =
+      → StaysIn (known_in s.cache (get f.blocks)) (known_in t.cache (get f.blocks)) → flight ≡ option_map (λ (a : Aloft). a.flight) aloft → SessionStands sealed signed hashed seed names f c t (record p { flight = flight })
+  ahead_stands f c p s t aloft flight h g same running more flies =
       let journal : t.journal ≡ s.journal = ap (λ (x : Inside). x.journal) same in
       let generation : t.generation ≡ s.generation = ap (λ (x : Inside). x.generation) same in
       let ring : t.ring ≡ s.ring = ap (λ (x : Inside). x.ring) same in
@@ -153,7 +153,6 @@ module _ (sealed signed : List ℕ → List ℕ → List ℕ) (hashed : List ℕ
           within = subst (λ j. j.known ≤ length c) (sym journal) r.within;
           hash_is = ap (λ j. j.hash) journal ∙ r.hash_is ∙ ap (λ j. hash_at f.revisions j.known) (sym journal);
           generation_is = generation ∙ r.generation_is ∙ ap (λ j. generation_from 0 (take j.known c)) (sym journal);
-          cached = met;
           held = subst (λ n. AllHold (Opens sealed hashed (known_in t.cache (get f.blocks)) (keys_to seed n)) (look (tree_at c t.journal.known)) t.kept) (sym generation)
               (subst (λ j. AllHold (Opens sealed hashed (known_in t.cache (get f.blocks)) (keys_to seed s.generation)) (look (tree_at c j.known)) t.kept) (sym journal)
               (all_within sealed hashed (known_in s.cache (get f.blocks)) (known_in t.cache (get f.blocks)) (keys_to seed s.generation) (look (tree_at c s.journal.known)) t.kept more
@@ -218,7 +217,7 @@ module _ (sealed signed : List ℕ → List ℕ → List ℕ) (hashed : List ℕ
       m = at_journal d c p j part session.at.journal_is
 
       after : SessionStands sealed signed hashed seed names f c t (record p { flight = Some flight })
-      after = ahead_stands f c p s t (Some picks.aloft) (Some flight) session g picks.session running (known_taken hashed s.cache t.cache picked.request.blocks (get f.blocks) picks.takes) (takes_met hashed s.cache t.cache picked.request.blocks session.remembers.cached picks.takes) (ap Some (sym picks.made.flight))
+      after = ahead_stands f c p s t (Some picks.aloft) (Some flight) session g picks.session running (known_taken hashed s.cache t.cache picked.request.blocks (get f.blocks) picks.takes) (ap Some (sym picks.made.flight))
 
       journal : t.journal ≡ s.journal
       journal = ap (λ (x : Inside). x.journal) picks.session
@@ -292,4 +291,4 @@ module _ (sealed signed : List ℕ → List ℕ → List ℕ) (hashed : List ℕ
   pub ahead_stays : (old : Member) (s t : Inside) → old.inside ≡ Some s → IsRunning t → GoesAhead s t → t ≡ with_flight s t s.aloft → t.cache ≡ s.cache → DeviceStays sealed signed hashed seed names old.number old (record old { inside = Some t })
   ahead_stays old s t was running g same cache f c p h =
       let session = inside_at old.number f c old p s was h in
-      with_session old.number f c old p p.flight t h (ahead_stands f c p s t s.aloft p.flight session g same running (λ id b at. ap (λ (m : Cache). known_in m (get f.blocks) id) cache ∙ at) (subst (HasOrMet hashed) (sym cache) session.remembers.cached) session.flight)
+      with_session old.number f c old p p.flight t h (ahead_stands f c p s t s.aloft p.flight session g same running (λ id b at. ap (λ (m : Cache). known_in m (get f.blocks) id) cache ∙ at) session.flight)

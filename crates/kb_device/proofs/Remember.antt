@@ -24,12 +24,12 @@ use Rattle.kb_folder.specs.Puts.{Held, Puts}
 use Rattle.kb_folder.specs.Goes.{HasChain, Grows}
 use Rattle.kb_folder.proofs.Standing.{stands_length}
 use Rattle.kb_ranges.specs.Patches.{StaysIn}
-use Rattle.kb_device.specs.Caches.{Cache, known_in, Takes, HasOrMet}
+use Rattle.kb_device.specs.Caches.{Cache, known_in, Takes}
 use Rattle.kb_device.specs.Left.{left_of}
 use Rattle.kb_device.specs.Knowing.{KnowsFolder}
 use Rattle.kb_device.specs.Remembering.{hash_at, Remembers}
 use Rattle.kb_device.proofs.Touched.{left_holds}
-use Rattle.kb_device.proofs.Shared.{known_there, known_longer, known_taken, takes_all, takes_met, known_all, all_within}
+use Rattle.kb_device.proofs.Shared.{known_there, known_longer, known_taken, takes_all, known_all, all_within}
 
 hash_longer : (b : List ℕ) (bs : Revisions) (known : ℕ) → known ≤ length bs → hash_at (b ∷ bs) known ≡ hash_at bs known
 hash_longer b bs known le = ap (λ n. head_of (drop n (b ∷ bs))) (let e : suc (length bs) - known ≡ suc (length bs - known) = omega (arith, le) in e)
@@ -50,7 +50,6 @@ module _ (sealed signed : List ℕ → List ℕ → List ℕ) (hashed : List ℕ
       generation_is = old.generation_is ∙ ap (generation_from 0) (sym (take-append-le known c more old.within));
       held = subst (λ (t : Tree). AllHold (Opens sealed hashed (known_in cache (get new.blocks)) (keys_to seed generation)) (look t) kept) (sym (tree_longer c more known old.within))
           (all_within sealed hashed (known_in cache (get f.blocks)) (known_in cache (get new.blocks)) (keys_to seed generation) (look (tree_at c known)) kept (known_longer cache (get f.blocks) (get new.blocks) blocks) old.held);
-      cached = old.cached;
     }
       where
         more_than : (c more : Chain) (known : ℕ) → known ≤ length c → known ≤ length (c ++ more)
@@ -70,10 +69,10 @@ module _ (sealed signed : List ℕ → List ℕ → List ℕ) (hashed : List ℕ
   }
 
   pub taken : (f new : Held) (c : Chain) (x : Plain) (request : FolderRequest) (n generation : ℕ) (t : Tree) (left pointers : Kept) (was cache : Cache) → HasChain sealed signed hashed seed names f c → Puts signed hashed f request new (Ok n)
-      → t ≡ tree_at (c ++ x ∷ []) (length c + 1) → generation ≡ generation_of (c ++ x ∷ []) → 1 ≤ generation → HasOrMet hashed was → Takes hashed was request.blocks cache → AllHold (Opens sealed hashed (known_in was (get f.blocks)) (keys_to seed generation)) (look t) left
+      → t ≡ tree_at (c ++ x ∷ []) (length c + 1) → generation ≡ generation_of (c ++ x ∷ []) → 1 ≤ generation → Takes hashed was request.blocks cache → AllHold (Opens sealed hashed (known_in was (get f.blocks)) (keys_to seed generation)) (look t) left
       → OnceAllStored hashed sealed generation (folder_key seed generation) request.blocks (λ vault. AllHold vault (look t) left → AllHold vault (look t) pointers)
       → Remembers sealed hashed seed new (c ++ x ∷ []) (length c + 1) (sha256 request.revision) generation pointers cache
-  taken f new c x request n generation t left pointers was cache has added tree generation_is some met takes held once =
+  taken f new c x request n generation t left pointers was cache has added tree generation_is some takes held once =
       let longer : length (c ++ x ∷ []) ≡ length c + 1 = length-append c (x ∷ []) in
       let old = size f c has in
       let here : length c + 1 ≡ length (request.revision ∷ f.revisions) = omega (arith, old) in
@@ -86,5 +85,4 @@ module _ (sealed signed : List ℕ → List ℕ → List ℕ) (hashed : List ℕ
         hash_is = sym (ap (λ bs. hash_at bs (length c + 1)) added.revisions ∙ hash_last (request.revision ∷ f.revisions) (length c + 1) here);
         generation_is = generation_is ∙ sym (ap (generation_from 0) (take_all (length c + 1) (c ++ x ∷ []) (omega (arith, longer))));
         held = λ q p at. subst (λ (u : Tree). Holds (Opens sealed hashed (known_in cache (get new.blocks)) (keys_to seed generation)) (look u) q p) tree (all q p at);
-        cached = takes_met hashed was cache request.blocks met takes;
       }

@@ -36,7 +36,7 @@ use Rattle.kb_folder.specs.Puts.{Held, Puts}
 use Rattle.kb_folder.specs.Goes.{HasChain, IsFor, Grows, Means, PutsGo, PutsMean}
 use Rattle.kb_folder.proofs.Goes.{lawful_chain}
 use Rattle.kb_device.specs.Caches.{Cache, known_in, Takes}
-use Rattle.kb_device.proofs.Shared.{known_there, known_taken, takes_met, all_within}
+use Rattle.kb_device.proofs.Shared.{known_there, known_taken, all_within}
 use Rattle.kb_device.specs.Answers as says
 use Rattle.kb_device.specs.Disks as front
 use Rattle.kb_device.specs.Disks.{IsKept}
@@ -249,7 +249,7 @@ module _ (sealed signed : List ℕ → List ℕ → List ℕ) (hashed : List ℕ
 
       remembers : Remembers sealed hashed seed g longer n hash a.plan.generation a.pointers a.cache
       remembers = subst (λ k. Remembers sealed hashed seed g longer k hash a.plan.generation a.pointers a.cache) (sym end)
-          (remembers_taken sealed signed hashed seed names f g c y a.request number a.plan.generation tree a.asked.left a.pointers a.plan.cache a.cache may.has a.put.0 (tree_now ∙ ap (tree_at longer) end) generation_now (low t now (Ok number) a) (stands t now (Ok number) a).remembers.cached a.takes
+          (remembers_taken sealed signed hashed seed names f g c y a.request number a.plan.generation tree a.asked.left a.pointers a.plan.cache a.cache may.has a.put.0 (tree_now ∙ ap (tree_at longer) end) generation_now (low t now (Ok number) a) a.takes
           (left_held t now (Ok number) a)
           (subst (λ k. OnceAllStored hashed sealed a.plan.generation k a.request.blocks (λ vault. AllHold vault (look tree) a.asked.left → AllHold vault (look tree) a.pointers)) (key_is t now (Ok number) a) a.asked.holds))
 
@@ -501,7 +501,6 @@ module _ (sealed signed : List ℕ → List ℕ → List ℕ) (hashed : List ℕ
             hash_is = r.hash_is;
             generation_is = r.generation_is;
             held = all_within sealed hashed (known_in x.cache (get f.blocks)) (known_in cache (get f.blocks)) (keys_to seed x.generation) (look (tree_at c x.number)) x.kept (known_taken hashed x.cache cache made (get f.blocks) takes) r.held;
-            cached = takes_met hashed x.cache cache made r.cached takes;
           };
           ring = y.ring;
           base = y.base;

@@ -86,7 +86,7 @@ module _ (sealed signed : List ℕ → List ℕ → List ℕ) (hashed : List ℕ
             base = session.base ∙ ap (λ l. fold_ops l p.base) (sym (take-append-le s.ahead s.journal.queue (op ∷ []) session.running.ahead));
             shown = ap (apply op) session.shown ∙ sym (fold_push s.journal.queue op p.base);
             role = session.role;
-            remembers = record { within = r.within; hash_is = r.hash_is; generation_is = r.generation_is; held = r.held; cached = r.cached };
+            remembers = record { within = r.within; hash_is = r.hash_is; generation_is = r.generation_is; held = r.held };
             held = session.held;
             written = λ first rest old queue one is.
                 let le = session.running.ahead in

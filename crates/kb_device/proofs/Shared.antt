@@ -1,21 +1,18 @@
 -- The blocks of a device's cache that the folder has too.
-use Rattle.std.proofs.Common.{◌≡◌, ℕ, Bool, true, false, cond, List, [], ◌∷◌, Option, Some, None, Ok, Err, inl, inr, refl, sym, ap, subst, ◌∙◌}
+use Rattle.std.proofs.Common.{◌≡◌, ℕ, Bool, true, false, cond, List, [], ◌∷◌, Option, Some, None, Ok, refl, sym, ap, subst, ◌∙◌}
 use Rattle.std.specs.Str.{bytes_eq}
 use Rattle.std.specs.List.{AllByRecursion}
-use Rattle.std.specs.FinMap.{get, insert}
+use Rattle.std.specs.FinMap.{get}
 use Rattle.kb_rules.proofs.Basics.{bytes_same, bytes_self}
 use Rattle.kb_ops.specs.Rows.{Look}
 use Rattle.kb_blocks.specs.Stores as stores
-use Rattle.kb_blocks.specs.declared.store.PutFault.{PutFault}
-use Rattle.kb_blocks.specs.declared.store.PutFault.TheVariants as put
-use Rattle.kb_blocks.proofs.Puts.{at_insert}
 use Rattle.kb_files.specs.Opens.{Blocks, Keys, Opens}
 use Rattle.kb_files.proofs.Kept.{all_stored}
 use Rattle.kb_files.proofs.Vaults.{opens_kept}
 use Rattle.kb_snap.specs.Pointers.{Kept, AllHold}
 use Rattle.kb_snap.proofs.Kept.{row_within}
 use Rattle.kb_ranges.specs.Patches.{StaysIn}
-use Rattle.kb_device.specs.Caches.{Cache, agreed, known_in, AreIn, HasAll, Takes, TwoOfOneHash, HasOrMet}
+use Rattle.kb_device.specs.Caches.{Cache, agreed, known_in, AreIn, HasAll, Takes}
 
 agreed_here : (a b : Option (List ℕ)) (x : List ℕ) → a ≡ Some x → b ≡ Some x → agreed a b ≡ Some x
 agreed_here a b x here there = subst (λ o. agreed o b ≡ Some x) (sym here) (subst (λ o. agreed (Some x) o ≡ Some x) (sym there) (ap (λ c. cond c (Some x) None) (bytes_self x)))
@@ -66,28 +63,6 @@ pub takes_all : (hashed : List ℕ → List ℕ) (was cache : Cache) (made : Lis
 takes_all hashed None cache made takes = subst (λ (c : Cache). HasAll hashed c made) (sym takes) tt
 takes_all hashed (Some m) (Some n) made takes = takes.1
 takes_all hashed (Some m) None made takes = tt
-
--- a cache that is given up has met two blocks of one hash
-pub takes_met : (hashed : List ℕ → List ℕ) (was cache : Cache) (made : List (List ℕ)) → HasOrMet hashed was → Takes hashed was made cache → HasOrMet hashed cache
-takes_met hashed None cache made met takes = subst (HasOrMet hashed) (sym takes) met
-takes_met hashed (Some m) (Some n) made met takes = tt
-takes_met hashed (Some m) None made met takes = takes.1
-
-pub met_taken : (hashed : List ℕ → List ℕ) (held : Option (List ℕ)) (id bytes : List ℕ) → stores.IsTaken held bytes → ((b : List ℕ) → held ≡ Some b → id ≡ hashed b) → id ≡ hashed bytes → TwoOfOneHash hashed
-met_taken hashed None id bytes taken named own = absurd taken
-met_taken hashed (Some b) id bytes taken named own = record { one = b; other = bytes; apart = taken; hash = sym (named b refl) ∙ own }
-
-met_colliding : (hashed : List ℕ → List ℕ) (m : stores.Blocks) (made : List (List ℕ)) (id : List ℕ) → ((b : List ℕ) → get m id ≡ Some b → id ≡ hashed b) → stores.Collides hashed m made id → TwoOfOneHash hashed
-met_colliding hashed m [] id named c = absurd c
-met_colliding hashed m (b ∷ made) id named (inl (own, taken)) = met_taken hashed (get m id) id b taken named own
-met_colliding hashed m (b ∷ made) id named (inr (free, later)) =
-    met_colliding hashed (insert m (hashed b) b) made id (λ x. at_insert m (hashed b) b id (λ o. o ≡ Some x → id ≡ hashed x) (λ same e. let is : b ≡ x = cc in same ∙ ap hashed is) (named x)) later
-
--- what a store refused to take for two blocks of one hash
-pub takes_none : (hashed : List ℕ → List ℕ) (was now : Cache) (m new : stores.Blocks) (made : List (List ℕ)) (fault : PutFault) (id : List ℕ) → was ≡ Some m → now ≡ None → fault ≡ put.Collision id → stores.PutsAll hashed {X = Unit {0}} m new made (Err fault) → ((b : List ℕ) → get new id ≡ Some b → id ≡ hashed b) → Takes hashed was made now
-takes_none hashed was now m new made fault id first gone is puts named =
-    let p = subst (λ e. stores.PutsAll hashed {X = Unit {0}} m new made (Err e)) is puts in
-    subst (λ (c : Cache). Takes hashed was made c) (sym gone) (subst (λ (c : Cache). Takes hashed c made None) (sym first) ((id, p.0), met_colliding hashed m made id (λ b at. named b (ap (λ (n : stores.Blocks). get n id) p.1 ∙ at)) p.0))
 
 -- what a store took, its cache took
 pub takes_some : (hashed : List ℕ → List ℕ) (was : Cache) (m new : stores.Blocks) (made : List (List ℕ)) → was ≡ Some m → stores.PutsAll hashed {X = Unit {0}} m new made (Ok tt) → stores.Keeps m new → Takes hashed was made (Some new)

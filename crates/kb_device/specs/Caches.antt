@@ -1,5 +1,5 @@
 -- The blocks that a device keeps of its own.
-use Rattle.std.specs.Prelude.{◌≡◌, ◌≢◌, ℕ, List, length, if◌then◌else◌, Option, Some, None, is_some, Result, Ok, Err}
+use Rattle.std.specs.Prelude.{◌≡◌, ℕ, List, length, if◌then◌else◌, Option, Some, None, is_some, Result, Ok, Err}
 use Rattle.std.specs.Str.{bytes_eq}
 use Rattle.std.specs.List.{AllByRecursion}
 use Rattle.std.specs.FinMap.{get}
@@ -25,18 +25,6 @@ use Rattle.kb_device.specs.declared.caching.CopyFault.TheVariants as fault
 -- the blocks by their hashes, or none where two blocks of one hash met
 abbrev pub Cache : Type 0
 Cache = Option stores.Blocks
-
--- two different blocks of one hash
-pub record TwoOfOneHash (hashed : List ℕ → List ℕ) : Type 0 where
-  pub one : List ℕ
-  pub other : List ℕ
-  pub apart : one ≢ other
-  pub hash : hashed one ≡ hashed other
-
--- a device without a cache has met two different blocks of one hash
-abbrev pub HasOrMet : (List ℕ → List ℕ) → Cache → Type 0
-HasOrMet hashed None = TwoOfOneHash hashed
-HasOrMet hashed (Some m) = Unit {0}
 
 -- the bytes that are the same on both sides
 abbrev pub agreed : Option (List ℕ) → Option (List ℕ) → Option (List ℕ)
@@ -67,7 +55,7 @@ HasAll hashed (Some m) made = AllByRecursion (λ b. get m (hashed b) ≡ Some b)
 abbrev pub Takes : (List ℕ → List ℕ) → Cache → List (List ℕ) → Cache → Type 0
 Takes hashed None made new = new ≡ None
 Takes hashed (Some m) made (Some new) = StaysIn (get m) (get new) × HasAll hashed (Some new) made
-Takes hashed (Some m) made None = ((id : List ℕ) × stores.Collides hashed m made id) × TwoOfOneHash hashed
+Takes hashed (Some m) made None = (id : List ℕ) × stores.Collides hashed m made id
 
 -- ---- copying
 
@@ -99,11 +87,6 @@ abbrev pub told : Result (List ℕ) PutFault → Result (Unit {0}) CopyFault
 told (Ok id) = Ok tt
 told (Err (put.Collision id)) = Err fault.Clash
 told (Err put.Memory) = Err fault.Memory
-
--- why blocks weren't copied: two of one hash met, or for want of memory
-abbrev pub MetAt : (List ℕ → List ℕ) → CopyFault → Type 0
-MetAt hashed fault.Clash = TwoOfOneHash hashed
-MetAt hashed fault.Memory = Unit {0}
 
 -- Where the kept pointers hold the tree row by row, they hold it in the blocks of the cache that are the store's.
 abbrev pub Caches : (List ℕ → List ℕ → List ℕ) → (List ℕ → List ℕ) → Blocks → Keys → Tree → Kept → Cache → Type 0

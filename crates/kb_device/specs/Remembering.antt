@@ -17,20 +17,19 @@ use Rattle.kb_folder.specs.Stands.{Revisions, head_of, keys_to}
 use Rattle.kb_folder.specs.Puts.{Held, Puts}
 use Rattle.kb_folder.specs.Goes.{HasChain, Grows}
 use Rattle.kb_device.specs.Left.{left_of}
-use Rattle.kb_device.specs.Caches.{Cache, known_in, Takes, HasOrMet}
+use Rattle.kb_device.specs.Caches.{Cache, known_in, Takes}
 use Rattle.kb_device.specs.Knowing.{KnowsFolder}
 
 -- the hash of the revision with this number, of the last first, and zeros for none
 abbrev pub hash_at : Revisions → ℕ → List ℕ
 hash_at bs known = head_of (drop (length bs - known) bs)
 
--- The device keeps the hash of its known revision, the generation there, and pointers that hold rows of its tree in blocks that its cache and the folder have. It has a cache, or has met two different blocks of one hash.
+-- The device keeps the hash of its known revision, the generation there, and pointers that hold rows of its tree in blocks that its cache and the folder have.
 pub record Remembers (sealed : List ℕ → List ℕ → List ℕ) (hashed : List ℕ → List ℕ) (seed : List ℕ) (f : Held) (c : Chain) (known : ℕ) (hash : List ℕ) (generation : ℕ) (kept : Kept) (cache : Cache) : Type 0 where
   pub within : known ≤ length c
   pub hash_is : hash ≡ hash_at f.revisions known
   pub generation_is : generation ≡ generation_at c known
   pub held : AllHold (Opens sealed hashed (known_in cache (get f.blocks)) (keys_to seed generation)) (look (tree_at c known)) kept
-  pub cached : HasOrMet hashed cache
 
 module _ (sealed signed : List ℕ → List ℕ → List ℕ) (hashed : List ℕ → List ℕ) (seed : List ℕ) (names : Names) where
   -- It is so while the folder grows.
@@ -46,6 +45,6 @@ module _ (sealed signed : List ℕ → List ℕ → List ℕ) (hashed : List ℕ
   -- Once its request was taken, the new revision can be known: by the hash of its bytes, and the pointers of its whole tree.
   abbrev pub RemembersTaken : Type 0
   RemembersTaken = (f new : Held) (c : Chain) (x : Plain) (request : FolderRequest) (n generation : ℕ) (t : Tree) (left pointers : Kept) (old cache : Cache) → HasChain sealed signed hashed seed names f c → Puts signed hashed f request new (Ok n)
-      → t ≡ tree_at (c ++ x ∷ []) (length c + 1) → generation ≡ generation_of (c ++ x ∷ []) → 1 ≤ generation → HasOrMet hashed old → Takes hashed old request.blocks cache → AllHold (Opens sealed hashed (known_in old (get f.blocks)) (keys_to seed generation)) (look t) left
+      → t ≡ tree_at (c ++ x ∷ []) (length c + 1) → generation ≡ generation_of (c ++ x ∷ []) → 1 ≤ generation → Takes hashed old request.blocks cache → AllHold (Opens sealed hashed (known_in old (get f.blocks)) (keys_to seed generation)) (look t) left
       → OnceAllStored hashed sealed generation (folder_key seed generation) request.blocks (λ vault. AllHold vault (look t) left → AllHold vault (look t) pointers)
       → Remembers sealed hashed seed new (c ++ x ∷ []) (length c + 1) (sha256 request.revision) generation pointers cache

@@ -1,5 +1,5 @@
 //! A device's own blocks: those of its tree, copied from the folder's.
-ghost use Rattle.std.specs.Prelude.{◌≡◌, ◌≤◌, ℕ, List, Some, IfOk, IfErr, OnOk, OnErr, length, map as each};
+ghost use Rattle.std.specs.Prelude.{◌≡◌, ◌≤◌, ℕ, List, Some, IfOk, OnOk, OnErr, length, map as each};
 ghost use Rattle.std.specs.List.{AllByRecursion};
 ghost use Rattle.std.specs.FinMap as map;
 ghost use Rattle.kb_blocks.specs.declared.pointer.Ptr.{Ptr};
@@ -8,7 +8,7 @@ ghost use Rattle.kb_keys.specs.Rings.{key_at};
 ghost use Rattle.kb_files.specs.Opens.{Opens};
 ghost use Rattle.kb_snap.specs.Holds.{HoldsEach};
 ghost use Rattle.kb_ranges.specs.Patches.{StaysIn};
-ghost use Rattle.kb_device.specs.Caches.{Copies, IsCopied, FileCopied, KindCopied, RowCopied, Caches, Takes, HasOrMet, MetAt, told};
+ghost use Rattle.kb_device.specs.Caches.{Copies, IsCopied, FileCopied, KindCopied, RowCopied, Caches, Takes, told};
 
 use kb_blocks::{BlockHash, Hash, Ptr, PutFault, Store};
 use kb_edge::Memory;
@@ -38,13 +38,6 @@ fn told(put: &Result<Hash, PutFault>) -> Result<(), CopyFault>
     }
 }
 
-// The bytes that a store has under an id have that hash.
-fn is_named<H: BlockHash>(store: &Store<H>, id: &Hash)
-    ensures { (bytes : List ℕ) → map.get store.now id.now ≡ Some bytes → id.now ≡ H.hashed bytes }
-{
-    let _ = store.find(id);
-}
-
 // Copies the block with the id, where the store has one.
 fn copy_block<H: BlockHash>(
     store: &Store<H>,
@@ -53,11 +46,9 @@ fn copy_block<H: BlockHash>(
 ) -> Result<(), CopyFault>
     ensures grows { Copies (map.get store.now) (map.get cache.old) (map.get cache.new) }
     ensures copied { OnOk result ((bytes : List ℕ) → map.get store.now id.now ≡ Some bytes → map.get cache.new id.now ≡ Some bytes) }
-    ensures met { IfErr result (MetAt H.hashed) }
 {
     match store.find(id) {
         Some(bytes) => {
-            is_named(cache, id);
             let put = cache.put(bytes);
             told(&put)
         }
@@ -77,7 +68,6 @@ fn copy_at<S: Sealer, H: BlockHash>(
     requires { level ≤ 2 }
     ensures grows { Copies (map.get store.now) (map.get cache.old) (map.get cache.new) }
     ensures copied { OnOk result (IsCopied (Opens S.sealed H.hashed (map.get store.now) (key_at keys.now)) (Opens S.sealed H.hashed (map.get cache.new) (key_at keys.now)) level ptr) }
-    ensures met { IfErr result (MetAt H.hashed) }
 {
     match copy_block(store, cache, &ptr.id) {
         Ok(()) => {}
@@ -113,7 +103,6 @@ fn copy_file<S: Sealer, H: BlockHash>(
 ) -> Result<(), CopyFault>
     ensures grows { Copies (map.get store.now) (map.get cache.old) (map.get cache.new) }
     ensures copied { OnOk result (FileCopied (Opens S.sealed H.hashed (map.get store.now) (key_at keys.now)) (Opens S.sealed H.hashed (map.get cache.new) (key_at keys.now)) (length bytes.now) ptr) }
-    ensures met { IfErr result (MetAt H.hashed) }
 {
     let copied = copy_at::<S, H>(alloc, level_of(bytes.len()), ptr, keys, store, cache);
     copied
@@ -130,7 +119,6 @@ fn copy_row<S: Sealer, H: BlockHash>(
 ) -> Result<(), CopyFault>
     ensures grows { Copies (map.get store.now) (map.get cache.old) (map.get cache.new) }
     ensures copied { OnOk result (KindCopied (Opens S.sealed H.hashed (map.get store.now) (key_at keys.now)) (Opens S.sealed H.hashed (map.get cache.new) (key_at keys.now)) row.now.kind row.now.bytes ptr) }
-    ensures met { IfErr result (MetAt H.hashed) }
 {
     let bytes = row.bytes.as_slice();
     match row.kind {
@@ -150,7 +138,6 @@ fn copy_kept<S: Sealer, H: BlockHash>(
 ) -> Result<(), CopyFault>
     ensures grows { Copies (map.get store.now) (map.get cache.old) (map.get cache.new) }
     ensures copied { OnOk result (RowCopied (Opens S.sealed H.hashed (map.get store.now) (key_at keys.now)) (Opens S.sealed H.hashed (map.get cache.new) (key_at keys.now)) pointers.now row.now) }
-    ensures met { IfErr result (MetAt H.hashed) }
 {
     match pointers.get(row.id) {
         Some(ptr) => copy_row::<S, H>(alloc, row, ptr, keys, store, cache),
@@ -168,7 +155,6 @@ fn copy_rows<S: Sealer, H: BlockHash>(
 ) -> Result<(), CopyFault>
     ensures grows { Copies (map.get store.now) (map.get cache.old) (map.get cache.new) }
     ensures copied { OnOk result (AllByRecursion (RowCopied (Opens S.sealed H.hashed (map.get store.now) (key_at keys.now)) (Opens S.sealed H.hashed (map.get cache.new) (key_at keys.now)) pointers.now) rows.now) }
-    ensures met { IfErr result (MetAt H.hashed) }
 {
     'rows: for row in rows {
         match copy_kept::<S, H>(alloc, row, pointers, keys, store, cache) {
@@ -188,7 +174,6 @@ fn copy_tree<S: Sealer, H: BlockHash>(
 ) -> Result<Store<H>, CopyFault>
     ensures from { IfOk result (λ cache. StaysIn (map.get cache) (map.get store.now)) }
     ensures each { IfOk result (λ cache. (p : Ptr) → HoldsEach (Opens S.sealed H.hashed (map.get store.now) (key_at keys.now)) (look table.now.tree) p (map.get pointers.now) → HoldsEach (Opens S.sealed H.hashed (map.get cache) (key_at keys.now)) (look table.now.tree) p (map.get pointers.now)) }
-    ensures met { IfErr result (MetAt H.hashed) }
 {
     let rows = match table.rows() {
         Ok(rows) => rows,
@@ -210,8 +195,7 @@ pub fn cache_of<S: Sealer, H: BlockHash>(
     keys: &KeyRing,
     store: &Store<H>,
 ) -> Result<Option<Store<H>>, Memory>
-    ensures caches { IfOk result (λ cache. Caches S.sealed H.hashed (map.get store.now) (key_at keys.now) table.now.tree pointers.now cache) }
-    ensures met { IfOk result (HasOrMet H.hashed) }
+    ensures { IfOk result (λ cache. Caches S.sealed H.hashed (map.get store.now) (key_at keys.now) table.now.tree pointers.now cache) }
 {
     table.is_well_formed();
     match copy_tree::<S, H>(alloc, table, pointers, keys, store) {
@@ -241,9 +225,6 @@ pub fn keep_blocks<H: BlockHash>(
             *cache = Some(store);
             Err(Memory)
         }
-        Err(PutFault::Collision { id }) => {
-            is_named(&store, &id);
-            Ok(())
-        }
+        Err(PutFault::Collision { .. }) => Ok(()),
     }
 }

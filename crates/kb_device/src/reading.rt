@@ -18,7 +18,7 @@ ghost use Rattle.kb_folder.specs.Lands.{FolderStands};
 ghost use Rattle.kb_folder.specs.Reading.{places_behind};
 ghost use Rattle.kb_folder.specs.Held.{held};
 ghost use Rattle.kb_device.specs.Stands.{RingStands};
-ghost use Rattle.kb_device.specs.Caches.{known_in, HasOrMet};
+ghost use Rattle.kb_device.specs.Caches.{known_in};
 ghost use Rattle.kb_device.specs.Left.{PointsAll};
 ghost use Rattle.kb_device.specs.Filling.{is_wanted, IsServed, IfRead, HasKeysOf};
 
@@ -235,7 +235,7 @@ fn load_tree<S: Sealer, H: BlockHash>(
     private: &Private,
 ) -> Result<(Table, Pointers, Option<Store<H>>), ReadFault>
     ensures read { (t : Tree) → HoldsTree (Opens S.sealed H.hashed (get (held folder.now).blocks) (key_at ring.now)) private.now.root private.now.mtime t
-        → IfRead result (λ made. (made.0.tree ≡ t) × AllHold (Opens S.sealed H.hashed (known_in made.2 (get (held folder.now).blocks)) (key_at ring.now)) (look made.0.tree) made.1 × HasOrMet H.hashed made.2) }
+        → IfRead result (λ made. (made.0.tree ≡ t) × AllHold (Opens S.sealed H.hashed (known_in made.2 (get (held folder.now).blocks)) (key_at ring.now)) (look made.0.tree) made.1) }
     ensures all { IfOk result (λ made. PointsAll made.0.tree made.1) }
 {
     one_tree_law::<S, H>();
@@ -261,7 +261,7 @@ pub fn read_tree<S: Sealer, H: BlockHash>(
 ) -> Result<(Table, Pointers, Option<Store<H>>), ReadFault>
     ensures read { (seed : List ℕ) (names : Names) (bs : Revisions) (c : Back) (x : Plain) → IsWritten S.sealed S.signed H.hashed seed names (get (held folder.now).blocks) bs c bytes.now x
         → RingStands seed (generation_in (x ∷ c)) ring.now
-        → IfRead result (λ made. (made.0.tree ≡ tree_at (x ∷ c) (length (x ∷ c))) × AllHold (Opens S.sealed H.hashed (known_in made.2 (get (held folder.now).blocks)) (keys_to seed (generation_in (x ∷ c)))) (look made.0.tree) made.1 × HasOrMet H.hashed made.2) }
+        → IfRead result (λ made. (made.0.tree ≡ tree_at (x ∷ c) (length (x ∷ c))) × AllHold (Opens S.sealed H.hashed (known_in made.2 (get (held folder.now).blocks)) (keys_to seed (generation_in (x ∷ c)))) (look made.0.tree) made.1) }
     ensures all { IfOk result (λ made. PointsAll made.0.tree made.1) }
 {
     let revision = match decode(alloc, bytes) {

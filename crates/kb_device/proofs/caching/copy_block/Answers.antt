@@ -1,5 +1,5 @@
 use Rattle.std.proofs.Common.{◌≡◌, None, Some, sym, ◌∙◌}
-use Rattle.kb_device.proofs.Copied.{put_copies, put_copied, put_met}
+use Rattle.kb_device.proofs.Copied.{put_copies, put_copied}
 use Rattle.kb_device.proofs.caching.copy_block.Goals as goal
 
 pub returns-in-Some-clause-grows : goal.returns-in-Some-clause-grows
@@ -9,10 +9,6 @@ returns-in-Some-clause-grows g c =
 pub returns-in-Some-clause-copied : goal.returns-in-Some-clause-copied
 returns-in-Some-clause-copied g c =
     put_copied g.H.BlockHash.hashed c.args.store.now c.args.cache.now c.put-put.new.self c.args.id.now c.in-Some.bytes.now (sym c.in-Some.ensures.found) c.in-Some.ensures.hashed c.put-put.result c.told.result c.told.ensures c.put-put.ensures.put
-
-pub returns-in-Some-clause-met : goal.returns-in-Some-clause-met
-returns-in-Some-clause-met g c =
-    put_met g.H.BlockHash.hashed c.args.store.now c.args.cache.now c.put-put.new.self c.args.id.now c.in-Some.bytes.now (sym c.in-Some.ensures.found) c.in-Some.ensures.hashed c.is_named.ensures c.put-put.result c.told.result c.told.ensures c.put-put.ensures.put
 
 pub returns-in-None-clause-grows : goal.returns-in-None-clause-grows
 returns-in-None-clause-grows g c = record { stays = λ q v at. at; from = λ within. within }

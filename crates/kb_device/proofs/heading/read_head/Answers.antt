@@ -80,7 +80,7 @@ returns-clause-stands g c seed names chain known has secret_is member gen_is sta
     let tree = c.in-Ok-read_tree.ensures.read seed names p.older_bytes p.older p.plain written keys in
     let hash_is : c.hash_of-hash.result ≡ sha256 item = c.hash_of-hash.ensures ∙ ap sha256 c.deref-2.ensures.value in
     let all = head_stands g.S.Sealer.sealed g.S.Sealer.signed g.H.BlockHash.hashed seed names f chain known c.args.d c.args.secret.now c.args.generation has secret_is member within lent is i last item at c.length-number.result c.in-Ok-read_tree.made.0.tree c.in-Ok-read_tree.made.1 c.in-Ok-read_tree.made.2
-    c.fill.new.ring c.length-number.ensures ring tree.0 tree.1 tree.2 in (
+    c.fill.new.ring c.length-number.ensures ring tree.0 tree.1 in (
       subst (λ h. (let r : Read = record { number = c.length-number.result; hash = h; tree = c.in-Ok-read_tree.made.0.tree; kept = c.in-Ok-read_tree.made.1; cache = c.in-Ok-read_tree.made.2; ring = c.fill.new.ring; generation = c.generation-most.result } in ReadStands g.S.Sealer.sealed g.H.BlockHash.hashed seed f chain r)) (sym hash_is)
           (subst (λ n. (let r : Read = record { number = c.length-number.result; hash = sha256 item; tree = c.in-Ok-read_tree.made.0.tree; kept = c.in-Ok-read_tree.made.1; cache = c.in-Ok-read_tree.made.2; ring = c.fill.new.ring; generation = n } in ReadStands g.S.Sealer.sealed g.H.BlockHash.hashed seed f chain r)) (sym most_is) all.0),
       all.1,

@@ -97,7 +97,7 @@ returns-then-is_readable-clause-stands g c seed names chain has secret_is member
     let below : i < length has.back = subst (λ n. i < n) (lent_length g.S.Sealer.sealed g.S.Sealer.signed g.H.BlockHash.hashed seed names f has.back has.stands lent is) lt in
     let hash_is : c.hash_of-hash.result ≡ sha256 c.index-lent-number.result.items = c.hash_of-hash.ensures ∙ ap sha256 c.deref-3.ensures.value in (
       subst (λ h. (let r : Read = record { number = c.args.number; hash = h; tree = c.in-Ok-read_tree.made.0.tree; kept = c.in-Ok-read_tree.made.1; cache = c.in-Ok-read_tree.made.2; ring = c.fill.new.ring; generation = c.in-Ok.revision.generation } in ReadStands g.S.Sealer.sealed g.H.BlockHash.hashed seed f chain r)) (sym hash_is)
-          (read_stands g.S.Sealer.sealed g.S.Sealer.signed g.H.BlockHash.hashed seed names f chain c.args.d c.args.secret.now has secret_is member i p c.in-Ok.revision read_is c.args.number e c.index-lent-number.result.items placed.1 below c.in-Ok-read_tree.made.0.tree c.in-Ok-read_tree.made.1 c.in-Ok-read_tree.made.2 c.fill.new.ring ring0 tree.0 tree.1 tree.2),
+          (read_stands g.S.Sealer.sealed g.S.Sealer.signed g.H.BlockHash.hashed seed names f chain c.args.d c.args.secret.now has secret_is member i p c.in-Ok.revision read_is c.args.number e c.index-lent-number.result.items placed.1 below c.in-Ok-read_tree.made.0.tree c.in-Ok-read_tree.made.1 c.in-Ok-read_tree.made.2 c.fill.new.ring ring0 tree.0 tree.1),
       role_is_there g.S.Sealer.sealed g.S.Sealer.signed g.H.BlockHash.hashed seed names f chain c.args.d c.args.secret.now has secret_is member i p c.in-Ok.revision read_is c.in-Ok-read_role.role c.args.number e (c.in-Ok-read_role.ensures seed names has.back has.stands is),
     )
 
@@ -126,6 +126,6 @@ returns-clause-stands g c seed names chain has secret_is member is =
     let below : i < length has.back = subst (λ n. i < n) (lent_length g.S.Sealer.sealed g.S.Sealer.signed g.H.BlockHash.hashed seed names f has.back has.stands lent is) lt in
     let hash_is : c.hash_of-hash.result ≡ sha256 c.index-lent-number.result.items = c.hash_of-hash.ensures ∙ ap sha256 c.deref-3.ensures.value in
     let yes = subst (λ h. (let r : Read = record { number = c.args.number; hash = h; tree = c.in-Ok-read_tree.made.0.tree; kept = c.in-Ok-read_tree.made.1; cache = c.in-Ok-read_tree.made.2; ring = c.fill.new.ring; generation = c.in-Ok.revision.generation } in is_readable 0 r ≡ true)) (sym hash_is)
-    (readable g.S.Sealer.sealed g.S.Sealer.signed g.H.BlockHash.hashed seed names f chain c.args.d c.args.secret.now has secret_is member i p c.in-Ok.revision read_is c.args.number e c.index-lent-number.result.items placed.1 below c.in-Ok-read_tree.made.0.tree c.in-Ok-read_tree.made.1 c.in-Ok-read_tree.made.2 c.fill.new.ring ring0 tree.0 tree.1 tree.2) in
+    (readable g.S.Sealer.sealed g.S.Sealer.signed g.H.BlockHash.hashed seed names f chain c.args.d c.args.secret.now has secret_is member i p c.in-Ok.revision read_is c.args.number e c.index-lent-number.result.items placed.1 below c.in-Ok-read_tree.made.0.tree c.in-Ok-read_tree.made.1 c.in-Ok-read_tree.made.2 c.fill.new.ring ring0 tree.0 tree.1) in
     let no : true ≡ false = sym yes ∙ sym c.is_readable.ensures ∙ c.if-is_readable.false in
     absurd (clash no)

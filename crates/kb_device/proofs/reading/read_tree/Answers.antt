@@ -28,5 +28,5 @@ returns-clause-read g c seed names bs chain x w stands =
     let is = c.in-Ok-open.ensures w.spells.private private opened in
     let there = held_there g.S.Sealer.sealed g.S.Sealer.signed g.H.BlockHash.hashed seed names (get (held c.args.folder.now).blocks) bs chain c.args.bytes.now x w c.args.ring.now stands c.in-Ok.revision read_is c.in-Ok-open.private is in
     mapped c.load_tree.result _ _
-    (λ made h. (h.0, all_known g.S.Sealer.sealed g.S.Sealer.signed g.H.BlockHash.hashed seed names (get (held c.args.folder.now).blocks) bs chain c.args.bytes.now x w c.args.ring.now stands c.in-Ok.revision read_is made.0.tree made.1 made.2 h.1, h.2))
+    (λ made h. (h.0, all_known g.S.Sealer.sealed g.S.Sealer.signed g.H.BlockHash.hashed seed names (get (held c.args.folder.now).blocks) bs chain c.args.bytes.now x w c.args.ring.now stands c.in-Ok.revision read_is made.0.tree made.1 made.2 h.1))
     (c.load_tree.ensures.read (tree_at (x ∷ chain) (length (x ∷ chain))) there)
