@@ -66,7 +66,7 @@ module _ (sealed : List ℕ → List ℕ → List ℕ) (hashed : List ℕ → Li
 
 module _ (sealed signed : List ℕ → List ℕ → List ℕ) (hashed : List ℕ → List ℕ) (few_law : TakesFew sealed hashed) (seed : List ℕ) (names : Names) where
   picked_few : (v : Member) (secret : List ℕ) (s t : Inside) → v.inside ≡ Some s → IsRunning s → (picked : Picked) → Picks sealed signed hashed secret s picked t → PicksFew sealed signed hashed seed names v picked
-  picked_few v secret s t was running picked picks d f c p j op rest node offset bytes long row path u at has stands open first is there found plain_write = by (cached s.cache (subst (λ (x : Inside). IsSome x.cache) (same_inside u s (sym at ∙ was)) has)) where
+  picked_few v secret s t was running picked picks d f c p j op rest node offset bytes long row path u at has stands opened first is there found plain_write = by (cached s.cache (subst (λ (x : Inside). IsSome x.cache) (same_inside u s (sym at ∙ was)) has)) where
     g : GoesAhead s t
     g = picks.ahead
 
@@ -74,7 +74,7 @@ module _ (sealed signed : List ℕ → List ℕ → List ℕ) (hashed : List ℕ
     h = inside_at sealed signed hashed seed names d f c v p s was stands
 
     journal : j ≡ plain s.journal
-    journal = one_journal j (plain s.journal) (sym open.journal_is ∙ h.at.journal_is)
+    journal = one_journal j (plain s.journal) (sym opened.journal_is ∙ h.at.journal_is)
 
     same : g.op ≡ op
     same = same_op g.op op g.rest rest (sym g.queue ∙ sym (ap (λ (x : Journal). x.queue) journal) ∙ first)

@@ -60,6 +60,9 @@ returns-in-Err-answer-clause-does g c = (
   c.in-Ok-put_over.ensures.does.1,
 )
 
+pub returns-in-Err-answer-clause-running : goal.returns-in-Err-answer-clause-running
+returns-in-Err-answer-clause-running g c = runs_unplanned (inside c.args.self.now) (option_map plan_of c.take.new.self) c.requires.running
+
 pub returns-in-Ok-resolve-clause-does : goal.returns-in-Ok-resolve-clause-does
 returns-in-Ok-resolve-clause-does g c =
     let asks = asks_by g.S.Sealer.sealed g.S.Sealer.signed g.H.BlockHash.hashed (held c.args.folder.now) (held c.put_over.new.folder) c.args.d c.args.secret.now c.args.moment c.args.table.tree (inside c.args.self.now) (platter g.D.Disk c.args.self.now.journal.disk)
