@@ -1,5 +1,5 @@
 -- A pick makes few blocks of a file that was written.
-use Rattle.std.proofs.Common.{◌≡◌, ◌⊎◌, ℕ, ◌+◌, ◌*◌, ◌/◌, ◌≤◌, List, [], ◌∷◌, length, take, Option, Some, None, IsSome, is_some, Result, Ok, Err, IfOk, inl, inr, refl, sym, ap, subst, ◌∙◌}
+use Rattle.std.proofs.Common.{◌≡◌, ◌⊎◌, ℕ, ◌+◌, ◌*◌, ◌/◌, ◌≤◌, true, false, List, [], ◌∷◌, length, take, Option, Some, None, IsSome, is_some, Result, Ok, Err, IfOk, inl, inr, refl, sym, ap, subst, ◌∙◌}
 use Rattle.std.specs.FinMap.{get}
 use Rattle.kb_name.specs.declared.ids.NodeId.{NodeId}
 use Rattle.kb_name.specs.Nodes.{root}
@@ -10,8 +10,8 @@ use Rattle.kb_ops.specs.declared.rows.Change.TheVariants.{Sync}
 use Rattle.kb_ops.specs.Trees.{Tree, look, apply, fold_ops}
 use Rattle.kb_ops.specs.Find.{find_from}
 use Rattle.kb_blocks.specs.Stores as stores
-use Rattle.kb_keys.specs.Rings.{Keys, key_at}
-use Rattle.kb_files.specs.Opens.{Opens}
+use Rattle.kb_keys.specs.Rings.{key_at}
+use Rattle.kb_files.specs.Opens.{Opens, Keys}
 use Rattle.kb_files.specs.Files.{IsFileOf}
 use Rattle.kb_snap.specs.Chains.{Chain}
 use Rattle.kb_snap.specs.Pointers.{Kept}
@@ -36,6 +36,7 @@ use Rattle.kb_device.proofs.Shared.{known_cached}
 use Rattle.kb_device.proofs.Picks.{inside_at, sized_of, done_base, grounds_of}
 
 some_there : (o : Option OldFile) → IsSome o → (old : OldFile) × (o ≡ Some old)
+some_there None h = let bad : false ≡ true = h in cc
 some_there (Some old) h = (old, refl)
 
 same_op : (op other : Op) (rest more : List Op) → op ∷ rest ≡ other ∷ more → op ≡ other
@@ -45,6 +46,7 @@ row_one : (r row : Row) → Some r ≡ Some row → r ≡ row
 row_one r row e = cc
 
 cached : (cache : Cache) → IsSome cache → (m : stores.Blocks) × (cache ≡ Some m)
+cached None has = let bad : false ≡ true = has in cc
 cached (Some m) has = (m, refl)
 
 same_inside : (u s : Inside) → Some u ≡ Some s → u ≡ s
