@@ -77,7 +77,13 @@ pub fn apply(table: &mut Table, prepared: Prepared)
 {
     table.is_well_formed();
     let Prepared { op, spare } = prepared;
-    match op.change {
+    let Op {
+        device,
+        seq,
+        moment,
+        change,
+    } = op;
+    match change {
         Change::Create {
             parent,
             name,
@@ -85,8 +91,8 @@ pub fn apply(table: &mut Table, prepared: Prepared)
             bytes,
         } => table.insert(Row {
             id: NodeId {
-                device: op.device,
-                seq: op.seq,
+                device,
+                seq,
                 part: 0,
             },
             parent,
@@ -94,7 +100,7 @@ pub fn apply(table: &mut Table, prepared: Prepared)
             kind,
             bytes,
             exec: false,
-            mtime: op.moment,
+            mtime: moment,
         }),
         Change::Remove { node } => {
             let _ = table.remove(node);
@@ -113,7 +119,7 @@ pub fn apply(table: &mut Table, prepared: Prepared)
             offset,
             bytes,
             length,
-        } => table.write(node, offset, bytes.as_slice(), length, op.moment, spare),
+        } => table.write(node, offset, bytes.as_slice(), length, moment, spare),
         Change::Exec { node, on } => table.set_exec(node, on),
         Change::Touch { node, mtime } => table.set_mtime(node, mtime),
     }
