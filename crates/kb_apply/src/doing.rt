@@ -2,12 +2,14 @@
 ghost use Rattle.std.specs.Prelude.{◌≡◌, ◌≤◌, length, max, IfOk, IfSome, OnOk};
 ghost use Rattle.std.specs.Option.{option_copied};
 ghost use Rattle.std.specs.Vec.{vec_capacity};
+ghost use Rattle.std.specs.FinMap as map;
 ghost use Rattle.kb_ops.specs.Trees as trees;
-ghost use Rattle.kb_ops.specs.Trees.{make_way, Fits};
+ghost use Rattle.kb_ops.specs.Rows.{FitsRename};
+ghost use Rattle.kb_ops.specs.Trees.{look, edit, make_way, apply_change, Fits, FitsChange};
 ghost use Rattle.kb_apply.specs.Prepared.{done, CanGo, HasRoom, HasSpare, IsReady};
 
 use kb_edge::Memory;
-use kb_name::NodeId;
+use kb_name::{Moment, Name, NodeId};
 use kb_ops::{Change, Op, Row};
 use kb_tree::Table;
 use std::alloc::Global;
@@ -27,30 +29,34 @@ pub fn prepare(alloc: Global, table: &mut Table, op: &Op) -> Result<Prepared, Me
     ensures ready { IfOk result (λ p. IsReady p table.old.tree table.new.room) }
     ensures does { IfOk result (λ p. done p table.old.tree ≡ trees.apply op.now table.old.tree) }
 {
-    let op = op.clone()?;
-    let spare = spare_for(alloc, table, &op.change)?;
-    reserve_for(table, &op.change)?;
-    Ok(Prepared { op, spare })
+    let own = owned(op)?;
+    let spare = spare_for(alloc, table, &own.change)?;
+    Ok(Prepared { op: own, spare })
 }
 
-/// Makes room for the row that a change adds, if it adds one.
-fn reserve_for(table: &mut Table, change: &Change) -> Result<(), Memory>
+fn owned(op: &Op) -> Result<Op, Memory>
+    ensures { IfOk result (λ own. own ≡ op.now) }
+{
+    let own = op.clone()?;
+    Ok(own)
+}
+
+/// Makes room for the row that a change adds, if it adds one, and the spare buffer.
+fn spare_for(alloc: Global, table: &mut Table, change: &Change) -> Result<Vec<u8>, Memory>
     ensures tree { table.new.tree ≡ table.old.tree }
     ensures room { OnOk result (HasRoom change.now table.new.room) }
+    ensures spare { IfOk result (λ spare. HasSpare change.now (vec_capacity spare) table.old.tree) }
 {
     match change {
-        Change::Create { .. } => table.reserve(),
-        _ => Ok(()),
-    }
-}
-
-/// The spare buffer of a change.
-fn spare_for(alloc: Global, table: &Table, change: &Change) -> Result<Vec<u8>, Memory>
-    ensures { IfOk result (λ spare. HasSpare change.now (vec_capacity spare) table.now.tree) }
-{
-    match change {
+        Change::Create { .. } => {
+            table.reserve()?;
+            Ok(Vec::new(alloc))
+        }
+        Change::Remove { .. } => Ok(Vec::new(alloc)),
+        Change::Rename { .. } => Ok(Vec::new(alloc)),
         Change::Sync { node, length, .. } => spare_of(alloc, table.get(*node), *length as usize),
-        _ => Ok(Vec::new(alloc)),
+        Change::Exec { .. } => Ok(Vec::new(alloc)),
+        Change::Touch { .. } => Ok(Vec::new(alloc)),
     }
 }
 
@@ -75,7 +81,6 @@ pub fn apply(table: &mut Table, prepared: Prepared)
     requires { IsReady prepared table.old.tree table.old.room }
     ensures { table.new.tree ≡ done prepared table.old.tree }
 {
-    table.is_well_formed();
     let Prepared { op, spare } = prepared;
     let Op {
         device,
@@ -83,6 +88,20 @@ pub fn apply(table: &mut Table, prepared: Prepared)
         moment,
         change,
     } = op;
+    let id = NodeId {
+        device,
+        seq,
+        part: 0,
+    };
+    carry_out(table, id, moment, change, spare)
+}
+
+fn carry_out(table: &mut Table, id: NodeId, moment: Moment, change: Change, spare: Vec<u8>)
+    requires fits { FitsChange id moment change table.old.tree }
+    requires room { HasRoom change table.old.room }
+    requires spare { HasSpare change (vec_capacity spare) table.old.tree }
+    ensures { table.new.tree ≡ apply_change id moment change table.old.tree }
+{
     match change {
         Change::Create {
             parent,
@@ -90,11 +109,7 @@ pub fn apply(table: &mut Table, prepared: Prepared)
             kind,
             bytes,
         } => table.insert(Row {
-            id: NodeId {
-                device,
-                seq,
-                part: 0,
-            },
+            id,
             parent,
             name,
             kind,
@@ -110,10 +125,7 @@ pub fn apply(table: &mut Table, prepared: Prepared)
             parent,
             name,
             replaced,
-        } => {
-            make_way(table, replaced);
-            table.relocate(node, parent, name)
-        }
+        } => rename(table, node, parent, name, replaced),
         Change::Sync {
             node,
             offset,
@@ -123,6 +135,15 @@ pub fn apply(table: &mut Table, prepared: Prepared)
         Change::Exec { node, on } => table.set_exec(node, on),
         Change::Touch { node, mtime } => table.set_mtime(node, mtime),
     }
+}
+
+fn rename(table: &mut Table, node: NodeId, parent: NodeId, name: Name, gone: Option<NodeId>)
+    requires { FitsRename (map.len table.old.tree) (look table.old.tree) node parent name gone }
+    ensures { table.new.tree ≡ edit (make_way table.old.tree gone) node (λ r. record r { parent = parent; name = name }) }
+{
+    table.is_well_formed();
+    make_way(table, gone);
+    table.relocate(node, parent, name)
 }
 
 /// Takes out the row that goes first, if one does.
