@@ -26,4 +26,4 @@ fits_then t node parent name (Some gone) w fits =
 
 -- a copy of an operation that fits is ready, with what it needs
 pub copy_ready : (op own : Op) (spare : Vec ℕ Global) (t : Tree) (room : ℕ) → Fits op t → own ≡ op → HasRoom own.change room → HasSpare own.change (vec_capacity spare) t → IsReady (record { op = own; spare = spare }) t room
-copy_ready op own spare t room fits is has_room has_spare = record { fits = subst (λ (o : Op). Fits o t) (sym is) fits; room = has_room; spare = has_spare }
+copy_ready op own spare t room fits is has_room has_spare = record { fits = subst (λ (o : Op). Fits o t) (sym is) fits; has_room = has_room; has_spare = has_spare }

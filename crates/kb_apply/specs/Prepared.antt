@@ -41,8 +41,8 @@ HasSpare (Touch node mtime) spare t = Unit {0}
 
 pub record IsReady (p : Prepared) (t : Tree) (room : ℕ) : Type 0 where
   pub fits : Fits p.op t
-  pub room : HasRoom p.op.change room
-  pub spare : HasSpare p.op.change (vec_capacity p.spare) t
+  pub has_room : HasRoom p.op.change room
+  pub has_spare : HasSpare p.op.change (vec_capacity p.spare) t
 
 -- ---- what is planned
 

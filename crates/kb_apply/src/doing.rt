@@ -63,7 +63,7 @@ fn spare_for(alloc: Global, table: &mut Table, change: &Change) -> Result<Vec<u8
 /// A buffer for the bytes of a row that a write makes more. It has room for twice the old ones, so that a file which
 /// grows by small writes moves seldom.
 fn spare_of(alloc: Global, row: Option<&Row>, size: usize) -> Result<Vec<u8>, Memory>
-    ensures { IfOk result (λ spare. IfSome (option_copied row) (λ r. size ≤ max (length r.bytes) (vec_capacity spare))) }
+    ensures { IfOk result (λ spare. IfSome (option_copied row.entry) (λ r. size ≤ max (length r.bytes) (vec_capacity spare))) }
 {
     let Some(row) = row else {
         return Ok(Vec::new(alloc));

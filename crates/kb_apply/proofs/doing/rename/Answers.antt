@@ -1,7 +1,7 @@
-use Rattle.std.proofs.Common.{None, sym, ap, subst, ◌∙◌}
+use Rattle.std.proofs.Common.{None, sym, subst}
 use Rattle.std.specs.FinMap.{len}
 use Rattle.kb_ops.specs.Rows.{FitsRename}
-use Rattle.kb_ops.specs.Trees.{Tree, look, edit}
+use Rattle.kb_ops.specs.Trees.{Tree, look}
 use Rattle.kb_apply.proofs.Preparing.{goes_first, fits_then}
 use Rattle.kb_apply.proofs.doing.rename.Goals as goal
 
