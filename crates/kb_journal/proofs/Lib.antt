@@ -14,4 +14,4 @@ pub mod Pushed
 pub mod Short
 pub mod Used
 pub mod Zeros
-mod Queueing
+pub mod Queueing

@@ -61,6 +61,7 @@ impl<T: Drop> Queue<T> {
     }
 
     /// Adds an item, for which there is room.
+    #[tactic(auto, using(crate::proofs::Queueing::come))]
     pub fn push(&mut self, item: T)
         requires { 1 ≤ self.old.room }
         ensures { self.new.items ≡ self.old.items ++ item ∷ [] }
@@ -69,6 +70,7 @@ impl<T: Drop> Queue<T> {
     }
 
     /// The first n leave.
+    #[tactic(auto, using(crate::proofs::Queueing::left))]
     pub fn leave(&mut self, n: usize)
         requires { n ≤ length self.old.items }
         ensures { self.new.items ≡ drop n self.old.items }
