@@ -15,3 +15,4 @@ pub mod Short
 pub mod Used
 pub mod Zeros
 pub mod Queueing
+pub mod Armed
