@@ -1,5 +1,5 @@
 -- Operations that are prepared, and what doing them does.
-use Rattle.std.specs.Prelude.{◌≡◌, ℕ, ◌≤◌, length, Option, Some, None, IfSome, max}
+use Rattle.std.specs.Prelude.{ℕ, ◌≤◌, length, Option, Some, None, IfSome, max}
 use Rattle.std.specs.Vec.{vec_capacity}
 use Rattle.kb_name.specs.declared.ids.NodeId.{NodeId}
 use Rattle.kb_ops.specs.declared.rows.Change.{Change}

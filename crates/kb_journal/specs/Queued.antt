@@ -1,5 +1,5 @@
 -- A queue in memory: its items, and for how many more it has room.
-use Rattle.std.specs.Prelude.{◌≡◌, ℕ, List, refl}
+use Rattle.std.specs.Prelude.{ℕ, List, refl}
 use Rattle.std.specs.Coded.{Coded, code_by, coded×, coded_ℕ, coded_list}
 
 pub record Queued (T : Type 0) : Type 0 where
