@@ -1,4 +1,3 @@
-pub mod Patching
 pub mod Preparing
 pub mod Children
 pub mod Listing

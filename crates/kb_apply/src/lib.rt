@@ -7,7 +7,7 @@ mod laws;
 mod plans;
 mod shows;
 
-pub use doing::{Prepared, apply, patched, prepare};
+pub use doing::{Prepared, apply, prepare};
 pub use fitting::fits;
 pub use laws::{listed_law, placed_law};
 pub use plans::plan;

@@ -28,7 +28,8 @@ use Rattle.kb_snap.specs.Pointers.{Kept}
 use Rattle.kb_snap.proofs.HeldRows.{dir_kind, some_is}
 use Rattle.kb_ranges.specs.Patches.{FewBlocks, FileHeld, Covers}
 use Rattle.kb_ranges.specs.Laws.{WritesTouch, CutsTouch}
-use Rattle.kb_device.specs.Counting.{reach, IsPlainWrite, AllButAbove, TakesFew}
+use Rattle.kb_device.specs.Counting.{reach, IsPlainWrite, TakesFew}
+use Rattle.kb_device.specs.Left.{AllButAbove}
 use Rattle.kb_device.specs.Patching.{MakesFew}
 use Rattle.kb_device.specs.declared.patching.OldFile.{OldFile}
 
@@ -69,13 +70,13 @@ ways t q [] = []
 ways t q (name ∷ names) = q ∷ option_map_or (λ c. ways t c names) (child t q name) []
 
 -- one name of the way
-record OneName (t : Tree) (q : NodeId) (name : List ℕ) (names : List (List ℕ)) (node : NodeId) : Type 0 where
-  dir : is_dir (look t) q ≡ true
-  next : NodeId
-  at : child t q name ≡ Some next
-  found : find_from t next names ≡ Ok node
+pub record OneName (t : Tree) (q : NodeId) (name : List ℕ) (names : List (List ℕ)) (node : NodeId) : Type 0 where
+  pub dir : is_dir (look t) q ≡ true
+  pub next : NodeId
+  pub at : child t q name ≡ Some next
+  pub found : find_from t next names ≡ Ok node
 
-one_name : (t : Tree) (q : NodeId) (name : List ℕ) (names : List (List ℕ)) (node : NodeId) → find_from t q (name ∷ names) ≡ Ok node → OneName t q name names node
+pub one_name : (t : Tree) (q : NodeId) (name : List ℕ) (names : List (List ℕ)) (node : NodeId) → find_from t q (name ∷ names) ≡ Ok node → OneName t q name names node
 one_name t q name names node e = by (is_dir (look t) q) refl e where
   through : (o : Option NodeId) → child t q name ≡ o → is_dir (look t) q ≡ true → option_map_or (λ c. find_from t c names) o (Err NotFound) ≡ Ok node → OneName t q name names node
   through None is dir e = cc
@@ -84,6 +85,12 @@ one_name t q name names node e = by (is_dir (look t) q) refl e where
   by : (b : Bool) → is_dir (look t) q ≡ b → cond b (option_map_or (λ c. find_from t c names) (child t q name) (Err NotFound)) (Err NotDir) ≡ Ok node → OneName t q name names node
   by true dir e = through (child t q name) refl dir e
   by false dir e = cc
+
+-- and back
+pub next_name : (t : Tree) (q : NodeId) (name : List ℕ) (names : List (List ℕ)) (next node : NodeId) → is_dir (look t) q ≡ true → child t q name ≡ Some next → find_from t next names ≡ Ok node → find_from t q (name ∷ names) ≡ Ok node
+next_name t q name names next node dir at found =
+    ap (λ b. cond b (option_map_or (λ c. find_from t c names) (child t q name) (Err NotFound)) (Err NotDir)) dir
+    ∙ ap (λ o. option_map_or (λ c. find_from t c names) o (Err NotFound)) at ∙ found
 
 ways_next : (t : Tree) (q : NodeId) (name : List ℕ) (names : List (List ℕ)) (c : NodeId) → child t q name ≡ Some c → ways t q (name ∷ names) ≡ q ∷ ways t c names
 ways_next t q name names c e = ap (λ o. q ∷ option_map_or (λ c. ways t c names) o []) e
@@ -211,9 +218,11 @@ module _ (sealed : List ℕ → List ℕ → List ℕ) (hashed : List ℕ → Li
       omega (arith, whole, rest, front)
 
 pub takes_few : WritesTouch → CutsTouch → (sealed : List ℕ → List ℕ → List ℕ) (hashed : List ℕ → List ℕ) → TakesFew sealed hashed
-takes_few writes cuts sealed hashed store ring generation t left node old offset [] long blocks pointers names few formed m all path held none =
+takes_few writes cuts sealed hashed store ring generation t left node old offset [] long blocks pointers names few formed m all path held plain =
     let touches = cuts old.size long (min old.size (long - 1)) (max 1 long) refl refl in
-    let front = (m.few few held).1 (min old.size (long - 1)) (max 1 long) (subst (λ n. Covers old.size n 0 long (min old.size (long - 1)) (max 1 long)) (sym none) touches.0) in
+    let t0 = touches.0 in
+    let covers : Covers old.size offset 0 long (min old.size (long - 1)) (max 1 long) = record { within = t0.within; written = λ some. absurd (omega (arith, some)); grown = t0.grown; cut = t0.cut } in
+    let front = (m.few few held).1 (min old.size (long - 1)) (max 1 long) covers in
     let most = touches.1 in
     blocks_few sealed hashed store ring generation t left node old offset [] long blocks pointers names few formed m all path held (3 * ((long - old.size) / 4096 + 2)) (omega (arith, front, most))
 takes_few writes cuts sealed hashed store ring generation t left node old offset (b ∷ bytes) long blocks pointers names few formed m all path held plain =

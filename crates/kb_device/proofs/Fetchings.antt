@@ -32,10 +32,11 @@ runs_planned s x r = record {
   ahead = r.ahead;
   fit = r.fit;
   shown = r.shown;
+  pointed = r.pointed;
   first = r.first;
   last = r.last;
   keyed = r.keyed;
-  aloft = λ a is. (let f = r.aloft a is in record { number = f.number; count = f.count; ahead = f.ahead; clear = f.clear });
+  aloft = λ a is. (let f = r.aloft a is in record { number = f.number; count = f.count; ahead = f.ahead; clear = f.clear; all = f.all });
 }
 
 some_is : {A : Type 0} (x y : A) → Some x ≡ Some y → x ≡ y

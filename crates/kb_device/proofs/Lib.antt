@@ -70,4 +70,6 @@ pub mod Patched
 pub mod Copied
 pub mod OldFiles
 pub mod Requested
+pub mod Beside
 pub mod Counting
+pub mod Few

@@ -91,7 +91,7 @@ module _ (sealed signed : List ℕ → List ℕ → List ℕ) (hashed : List ℕ
       role = h.role;
       remembers = longer sealed signed hashed seed names f new c more s.journal.known s.journal.hash s.generation s.kept s.cache has h.remembers grows;
       held = all_within sealed hashed (known_in s.cache (get f.blocks)) (known_in s.cache (get new.blocks)) (keys_to seed s.generation) (look s.base) s.kept (known_grown s.cache) h.held;
-      written = λ op rest old queue one is. old_within sealed hashed (known_in s.cache (get f.blocks)) (known_in s.cache (get new.blocks)) (keys_to seed s.generation) s.base op.change old (known_grown s.cache) (h.written op rest old queue one is);
+      written = λ op rest old queue one is. (let was = h.written op rest old queue one is in (old_within sealed hashed (known_in s.cache (get f.blocks)) (known_in s.cache (get new.blocks)) (keys_to seed s.generation) s.base op.change old (known_grown s.cache) was.0, was.1));
       ring = h.ring;
       flight = h.flight;
       plan = h.plan;

@@ -10,7 +10,7 @@ use Rattle.kb_ops.specs.declared.rows.Change.{Change}
 use Rattle.kb_ops.specs.declared.rows.Op.{Op}
 use Rattle.kb_ops.specs.declared.rows.Change.TheVariants.{Create, Remove, Rename, Sync, Exec, Touch}
 use Rattle.kb_ops.specs.Rows.{is_dir_kind}
-use Rattle.kb_ops.specs.Trees.{Tree, look, apply, apply_change, edit, patched, Fits, FitsChange}
+use Rattle.kb_ops.specs.Trees.{Tree, look, apply, apply_change, edit, new_id, patched, Fits, FitsChange}
 use Rattle.kb_ops.proofs.Looks.{look-insert}
 use Rattle.kb_ops.proofs.TreeKept.{file_at}
 use Rattle.kb_files.specs.Files.{Vault}
@@ -20,9 +20,10 @@ use Rattle.kb_snap.specs.Pointers.{Kept, AllHold}
 use Rattle.kb_snap.proofs.Kept.{file_within}
 use Rattle.kb_snap.proofs.HeldRows.{as_file}
 use Rattle.kb_ranges.specs.Patches.{StaysIn}
-use Rattle.kb_device.specs.Left.{left_of}
+use Rattle.kb_device.specs.Left.{left_of, KeepsBeside}
+use Rattle.kb_device.proofs.Beside.{leaves_beside}
 use Rattle.kb_device.specs.Inside.{HasDone}
-use Rattle.kb_device.specs.Patching.{IsOver, IsOldOf, IsOldAt, WasAt}
+use Rattle.kb_device.specs.Patching.{IsOver, IsOldOf, IsOldAt, FindsOld, WasAt}
 use Rattle.kb_device.specs.declared.patching.OldFile.{OldFile}
 
 -- more blocks keep it
@@ -70,8 +71,11 @@ was_over vault t id moment (Touch node mtime) kept old fits all at = absurd at
 
 -- The base table goes ahead, by what was prepared of it.
 pub went_ahead : (op : Op) (ahead : ℕ) (base mid base' : Tree) (done : Tree → Tree) (kept kept' : Kept) (written written' : Option OldFile) → mid ≡ base → done base ≡ apply op base → ahead ≡ 0 → Fits op base → base' ≡ done mid
-    → ((q : NodeId) → get kept' q ≡ left_of mid op.change q (get kept q)) → ((old : OldFile) → written' ≡ Some old → WasAt mid kept op.change old) → HasDone op ahead 1 base base' kept kept' written written'
-went_ahead op ahead base mid base' done kept kept' written written' stays does none fits is leaves was = record {
+    → ((q : NodeId) → get kept' q ≡ left_of mid op.change q (get kept q)) → ((old : OldFile) → written' ≡ Some old → WasAt mid kept op.change old) → FindsOld mid kept op.change written' → HasDone op ahead 1 base base' kept kept' written written'
+went_ahead op ahead base mid base' done kept kept' written written' stays does none fits is leaves was finds = record {
   ahead_is = refl;
   does = inr (none, fits, is ∙ ap done stays ∙ does, (λ q p at. subst (λ (t : Tree). left_of t op.change q (get kept q) ≡ Some p) stays (sym (leaves q) ∙ at)), (λ old at. subst (λ (t : Tree). WasAt t kept op.change old) stays (was old at)));
+  beside = subst (λ (t : Tree). KeepsBeside t op.change kept kept') (sym (is ∙ ap done stays ∙ does))
+      (leaves_beside base (new_id op) op.moment op.change kept kept' fits (λ q. leaves q ∙ ap (λ (t : Tree). left_of t op.change q (get kept q)) stays));
+  finds = λ _. subst (λ (t : Tree). FindsOld t kept op.change written') stays finds;
 }

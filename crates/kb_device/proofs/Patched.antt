@@ -107,6 +107,13 @@ kept : (b : Bool) (o : Option Ptr) (p : Ptr) → cond b None o ≡ Some p → o 
 kept true o p at = cc
 kept false o p at = at
 
+-- a pointer that was set and forgotten with those above it leaves the others
+pub beside_still : (t : Tree) (old set new : Kept) (node : NodeId) (x : Ptr) → set ≡ insert old node x → ((q : NodeId) → get new q ≡ cond (is_below t q node) None (get set q)) → (q : NodeId) → is_below t q node ≡ false → get new q ≡ get old q
+beside_still t old set new node x is left q beside = elim (node_cases q node) as (λ _. get new q ≡ get old q) [
+  | inl same ↦ absurd (let no : true ≡ false = sym (ap (λ k. meets (look t) k (len t) node) same ∙ meets_self (look t) node (len t)) ∙ beside in cc)
+  | inr other ↦ left q ∙ ap (λ b. cond b None (get set q)) beside ∙ ap (λ (m : Kept). get m q) is ∙ set_other old node x q other
+]
+
 -- a pointer that was set, and forgotten with those above it
 pub still : (t : Tree) (old set new : Kept) (node : NodeId) (x : Ptr) → set ≡ insert old node x → ((q : NodeId) → get new q ≡ cond (is_below t q node) None (get set q)) → AreOf new old
 still t old set new node x is left q p at = elim (node_cases q node) as (λ _. get old q ≡ Some p) [

@@ -34,10 +34,11 @@ use Rattle.kb_device.specs.Stepping.{IsStepRequest}
 use Rattle.kb_ranges.specs.Patches.{StaysIn}
 use Rattle.kb_files.specs.Files.{Vault}
 use Rattle.kb_device.specs.Caches.{Cache, known_in}
-use Rattle.kb_device.specs.Patching.{IsOldOf, Grounds}
+use Rattle.kb_device.specs.Patching.{IsOldOf, HasSize, Grounds}
 use Rattle.kb_device.specs.declared.patching.OldFile.{OldFile}
 use Rattle.kb_device.proofs.OldFiles.{old_within, was_over}
 use Rattle.kb_device.proofs.Shared.{known_there, known_cached, known_taken, all_within}
+use Rattle.kb_device.proofs.Beside.{done_sized}
 use Rattle.kb_device.proofs.Touched.{leaves_hold}
 use Rattle.kb_device.proofs.Step.{key_now}
 use Rattle.kb_device.specs.Inside.{Aloft, Plan, Inside, IsRunning, HasDone}
@@ -69,7 +70,7 @@ left_within t (Touch node mtime) q old x e = from_within (is_below t q node) old
 -- ---- the base table
 
 -- the base table is ahead by the first operation
-done_base : (op : Op) (rest : List Op) (known : Tree) (ahead ahead' : ℕ) (base base' : Tree) (kept kept' : Kept) (written written' : Option OldFile) → HasDone op ahead ahead' base base' kept kept' written written'
+pub done_base : (op : Op) (rest : List Op) (known : Tree) (ahead ahead' : ℕ) (base base' : Tree) (kept kept' : Kept) (written written' : Option OldFile) → HasDone op ahead ahead' base base' kept kept' written written'
     → base ≡ fold_ops (take ahead (op ∷ rest)) known → base' ≡ fold_ops (op ∷ []) known
 done_base op rest known ahead ahead' base base' kept kept' written written' d is = elim d.does [
   | inl (one, same, _, _) ↦ same ∙ is ∙ ap (λ n. fold_ops (take n (op ∷ rest)) known) one
@@ -120,8 +121,15 @@ module _ (sealed signed : List ℕ → List ℕ → List ℕ) (hashed : List ℕ
       let vault = Opens sealed hashed (known_in s.cache (get f.blocks)) (keys_to seed s.generation) in
       subst (λ n. Grounds sealed hashed (known_in s.cache (get f.blocks)) (keys_to seed n) t.base left g.op.change t.written) (sym generation) (record {
         rows = done_held vault g.op s.ahead t.ahead s.base t.base s.kept left s.written t.written done h.held;
-        file = done_written vault g.op s.ahead t.ahead s.base t.base s.kept left s.written t.written done h.held (λ old one is. h.written g.op g.rest old g.queue one is);
+        file = done_written vault g.op s.ahead t.ahead s.base t.base s.kept left s.written t.written done h.held (λ old one is. (h.written g.op g.rest old g.queue one is).0);
       })
+
+  -- the file that it has written had its size in the tree of the known revision
+  pub sized_of : (f : Held) (c : Chain) (p : Part) (s t : Inside) (left : Kept) → SessionStands sealed signed hashed seed names f c s p → (g : GoesAhead s t) → HasDone g.op s.ahead t.ahead s.base t.base s.kept left s.written t.written
+      → (old : OldFile) → t.written ≡ Some old → HasSize p.base g.op.change old
+  sized_of f c p s t left h g done old is =
+      done_sized g.op p.base s.ahead t.ahead s.base t.base s.kept left s.written t.written done (λ none. h.base ∙ ap (λ n. fold_ops (take n s.journal.queue) p.base) none)
+      (λ was one there. (h.written g.op g.rest was g.queue one there).1) old is
 
   -- a session whose base table went ahead stands for the part with its flight
   pub ahead_stands : (f : Held) (c : Chain) (p : Part) (s t : Inside) (aloft : Option Aloft) (flight : Option Flight) → SessionStands sealed signed hashed seed names f c s p → (g : GoesAhead s t) → t ≡ with_flight s t aloft → IsRunning t
@@ -154,11 +162,12 @@ module _ (sealed signed : List ℕ → List ℕ → List ℕ) (hashed : List ℕ
             (all_within sealed hashed (known_in s.cache (get f.blocks)) (known_in t.cache (get f.blocks)) (keys_to seed s.generation) (look t.base) t.kept more
             (done_held vault g.op s.ahead t.ahead s.base t.base s.kept t.kept s.written t.written g.done h.held));
         written = λ op rest old queue' one is.
-            let first : g.op ≡ op = (let e : g.op ∷ g.rest ≡ op ∷ rest = sym queue ∙ queue' in cc) in
+            let first : g.op ≡ op = (let e : g.op ∷ g.rest ≡ op ∷ rest = sym queue ∙ queue' in cc) in (
             subst (λ n. IsOldOf (Opens sealed hashed (known_in t.cache (get f.blocks)) (keys_to seed n)) t.base op.change old) (sym generation)
             (old_within sealed hashed (known_in s.cache (get f.blocks)) (known_in t.cache (get f.blocks)) (keys_to seed s.generation) t.base op.change old more
             (subst (λ (o : Op). IsOldOf vault t.base o.change old) first
-            (done_written vault g.op s.ahead t.ahead s.base t.base s.kept t.kept s.written t.written g.done h.held (λ old one is. h.written g.op g.rest old g.queue one is) old is)));
+            (done_written vault g.op s.ahead t.ahead s.base t.base s.kept t.kept s.written t.written g.done h.held (λ old one is. (h.written g.op g.rest old g.queue one is).0) old is))),
+            subst (λ (o : Op). HasSize p.base o.change old) first (sized_of f c p s t t.kept h g g.done old is));
         ring = λ n. ap (λ k. key_at k n) ring ∙ h.ring n ∙ ap (λ k. keys_to seed k n) (sym generation);
         flight = flies ∙ ap (option_map (λ (a : Aloft). a.flight)) (sym (ap (λ (x : Inside). x.aloft) same));
         plan = h.plan ∙ ap (option_map (λ (x : Plan). x.number)) (sym (ap (λ (x : Inside). x.plan) same));

@@ -14,6 +14,7 @@ use Rattle.kb_device.specs.declared.opening.StartFault.{StartFault}
 use Rattle.kb_device.specs.declared.opening.StartFault.TheVariants as start
 use Rattle.kb_device.specs.declared.opening.Taking.{Taking}
 use Rattle.kb_device.specs.Inside.{IsRunning}
+use Rattle.kb_device.specs.Left.{PointsAll}
 use Rattle.kb_device.specs.Stands.{Platter}
 use Rattle.kb_device.specs.Heads.{Read}
 use Rattle.kb_device.specs.Noting.{Writes, Stops}
@@ -95,14 +96,15 @@ module _ (s : State) (taking : Option Taking) (r : Read) (shown : Tree) (can : C
     | false ↦ λ y. (let less : taken.known < r.number = grind (arith, nat_tests, y) in ap (λ (t : State). t.queue) (head_up taken r y) ∙ sym (is_flushed less) ∙ queue_is s taking)
   ] refl
 
-  pub begins_running : (role : Option Role) → AllByRecursion IsProper s.queue → IsRunning (started s taking r shown role)
-  begins_running role proper = record {
+  pub begins_running : (role : Option Role) → AllByRecursion IsProper s.queue → PointsAll r.tree r.kept → IsRunning (started s taking r shown role)
+  begins_running role proper all = record {
     known = known_low;
     proper = subst (λ q. AllByRecursion IsProper q) (sym left_is) (all_drop (count_of taking) s.queue proper);
     few = omega arith;
     ahead = omega arith;
     fit = subst (λ q. FitAll q r.tree) (sym left_is) can.fit;
     shown = can.shown_is ∙ ap (λ q. fold_ops q r.tree) (sym left_is);
+    pointed = record { all = λ _. all; beside = λ op rest queue one. cc };
     first = can.readable.first;
     last = can.readable.last;
     keyed = can.readable.keyed;

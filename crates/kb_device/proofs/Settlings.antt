@@ -9,7 +9,7 @@ use Rattle.kb_ops.specs.Grammar.{IsProper}
 use Rattle.kb_ops.specs.Trees.{Tree, look, fold_ops, FitAll}
 use Rattle.kb_snap.specs.Pointers.{Kept, AllHold}
 use Rattle.kb_device.specs.Inside.{Plan, Inside, IsRunning}
-use Rattle.kb_device.specs.Left.{LeavesSame}
+use Rattle.kb_device.specs.Left.{LeavesSame, PointsAll}
 use Rattle.kb_device.specs.Links.{Answers}
 use Rattle.sha2.specs.Sha256.{sha256}
 use Rattle.kb_keys.specs.Policies.{role_at}
@@ -31,8 +31,8 @@ drop_all : {A : Type 0} (xs : List A) → drop (length xs) xs ≡ []
 drop_all [] = refl
 drop_all (x ∷ xs) = drop_all xs
 
-merged_runs : (s : Inside) (x : Plan) (t : Tree) (pointers : Kept) (hash : List ℕ) (role : Option Role) → CanSettle s x → IsRunning (with_merge s x t pointers hash role)
-merged_runs s x t pointers hash role c =
+merged_runs : (s : Inside) (x : Plan) (t : Tree) (pointers : Kept) (hash : List ℕ) (role : Option Role) → CanSettle s x → PointsAll t pointers → IsRunning (with_merge s x t pointers hash role)
+merged_runs s x t pointers hash role c all =
     let gone = drop_all s.journal.queue in record {
       known = omega arith;
       proper = subst (AllByRecursion IsProper) (sym gone) tt;
@@ -40,6 +40,7 @@ merged_runs s x t pointers hash role c =
       ahead = omega arith;
       fit = subst (λ l. FitAll (drop 0 l) t) (sym gone) tt;
       shown = ap (λ l. fold_ops (drop 0 l) t) (sym gone);
+      pointed = record { all = λ _. all; beside = λ op rest queue one. cc };
       first = c.first;
       last = c.last;
       keyed = c.keyed;
@@ -47,8 +48,8 @@ merged_runs s x t pointers hash role c =
     }
 
 -- a session after a merge goes on
-pub running_merged : (s u : Inside) (x : Plan) (t : Tree) (pointers : Kept) (hash : List ℕ) (role : Option Role) → CanSettle s x → u ≡ with_merge s x t pointers hash role → IsRunning u
-running_merged s u x t pointers hash role c same = subst IsRunning (sym same) (merged_runs s x t pointers hash role c)
+pub running_merged : (s u : Inside) (x : Plan) (t : Tree) (pointers : Kept) (hash : List ℕ) (role : Option Role) → CanSettle s x → PointsAll t pointers → u ≡ with_merge s x t pointers hash role → IsRunning u
+running_merged s u x t pointers hash role c all same = subst IsRunning (sym same) (merged_runs s x t pointers hash role c all)
 
 -- and one whose plan is another
 pub runs_unplanned : (s : Inside) (o : Option Plan) → IsRunning s → IsRunning (record s { plan = o })
@@ -59,10 +60,11 @@ runs_unplanned s o r = record {
   ahead = r.ahead;
   fit = r.fit;
   shown = r.shown;
+  pointed = r.pointed;
   first = r.first;
   last = r.last;
   keyed = r.keyed;
-  aloft = λ a is. (let f = r.aloft a is in record { number = f.number; count = f.count; ahead = f.ahead; clear = f.clear });
+  aloft = λ a is. (let f = r.aloft a is in record { number = f.number; count = f.count; ahead = f.ahead; clear = f.clear; all = f.all });
 }
 
 test_le : (a b : ℕ) → nat_le a b ≡ true → a ≤ b

@@ -1,15 +1,13 @@
 -- How many blocks a tree takes whose file was written.
-use Rattle.std.specs.Prelude.{◌≡◌, ℕ, ◌+◌, ◌-◌, ◌*◌, ◌/◌, ◌≤◌, min, max, true, List, [], ◌∷◌, length, Some, None, Ok}
-use Rattle.std.specs.FinMap.{get}
+use Rattle.std.specs.Prelude.{◌≡◌, ℕ, ◌+◌, ◌-◌, ◌*◌, ◌/◌, ◌≤◌, min, max, List, [], ◌∷◌, length, Ok}
 use Rattle.kb_name.specs.declared.ids.NodeId.{NodeId}
 use Rattle.kb_name.specs.Nodes.{root}
-use Rattle.kb_ops.specs.declared.rows.Row.{Row}
 use Rattle.kb_ops.specs.Find.{find_from}
-use Rattle.kb_ops.specs.Plan.{is_below}
-use Rattle.kb_ops.specs.Trees.{Tree, look, IsWellFormed}
+use Rattle.kb_ops.specs.Trees.{Tree, IsWellFormed}
 use Rattle.kb_files.specs.Opens.{Blocks, Keys}
 use Rattle.kb_snap.specs.Pointers.{Kept}
 use Rattle.kb_ranges.specs.Patches.{FewBlocks, FileHeld}
+use Rattle.kb_device.specs.Left.{AllButAbove}
 use Rattle.kb_device.specs.Patching.{MakesFew}
 use Rattle.kb_device.specs.declared.patching.OldFile.{OldFile}
 
@@ -18,14 +16,10 @@ abbrev pub reach : ℕ → ℕ → List ℕ → ℕ → ℕ
 reach size offset [] long = long - size
 reach size offset (b ∷ bytes) long = offset + length (b ∷ bytes) - min offset size
 
--- a write leaves the file as long as it was or makes it just long enough, and a new size has no offset
+-- with bytes it leaves the file as long as it was or makes it just long enough, as a write does
 abbrev pub IsPlainWrite : ℕ → ℕ → List ℕ → ℕ → Type 0
-IsPlainWrite size offset [] long = offset ≡ 0
+IsPlainWrite size offset [] long = Unit {0}
 IsPlainWrite size offset (b ∷ bytes) long = long ≡ max size (offset + length (b ∷ bytes))
-
--- every row has a pointer but those from the node up to the root
-abbrev pub AllButAbove : Tree → NodeId → Kept → Type 0
-AllButAbove t node left = (q : NodeId) (r : Row) → look t q ≡ Some r → get left q ≡ None → is_below t q node ≡ true
 
 -- Where some blocks of the store hold the old file, the patched tree takes at most three blocks for each 4,096 bytes that the change reaches over, six more, and one for each name in the file's path.
 abbrev pub TakesFew : (List ℕ → List ℕ → List ℕ) → (List ℕ → List ℕ) → Type 0

@@ -1,8 +1,10 @@
 -- An open device, as plain values.
-use Rattle.std.specs.Prelude.{◌≡◌, ◌⊎◌, ℕ, ◌+◌, ◌≤◌, Bool, false, List, length, drop, Option, Some, IsSome}
+use Rattle.std.specs.Prelude.{◌≡◌, ◌⊎◌, ℕ, ◌+◌, ◌≤◌, Bool, false, List, ◌∷◌, length, drop, Option, Some, IsSome}
 use Rattle.std.specs.List.{AllByRecursion}
 use Rattle.kb_name.specs.declared.ids.NodeId.{NodeId}
 use Rattle.kb_ops.specs.declared.rows.Op.{Op}
+use Rattle.kb_ops.specs.declared.rows.Change.{Change}
+use Rattle.kb_ops.specs.declared.rows.Change.TheVariants.{Sync}
 use Rattle.kb_ops.specs.Grammar.{IsProper}
 use Rattle.kb_ops.specs.Trees.{Tree, apply, fold_ops, Fits, FitAll}
 use Rattle.kb_keys.specs.declared.policy.Role.{Role}
@@ -10,9 +12,9 @@ use Rattle.kb_keys.specs.Rings.{Keys, key_at}
 use Rattle.kb_snap.specs.Pointers.{Kept}
 use Rattle.kb_journal.specs.State.{State}
 use Rattle.kb_device.specs.Parts.{Flight}
-use Rattle.kb_device.specs.Left.{AreOf, AreLeft}
+use Rattle.kb_device.specs.Left.{AreOf, AreLeft, AllButAbove, PointsAll, KeepsBeside}
 use Rattle.kb_device.specs.Caches.{Cache}
-use Rattle.kb_device.specs.Patching.{WasAt}
+use Rattle.kb_device.specs.Patching.{WasAt, FindsOld}
 use Rattle.kb_device.specs.declared.patching.OldFile.{OldFile}
 
 -- A flight, and the pointers of the tree after it, which hold once its revision landed.
@@ -53,15 +55,27 @@ pub record Inside : Type 0 where
   pub aloft : Option Aloft
   pub plan : Option Plan
 
--- a flight of the first operation, which the base table has already
+-- where the change is a write, every row has a pointer but those from the written one up to the root, and the file is kept as it was
+abbrev pub PointsBeside : Tree → Change → Kept → Option OldFile → Type 0
+PointsBeside t (Sync node offset bytes size) kept written = AllButAbove t node kept × IsSome written
+PointsBeside t change kept written = Unit {0}
+
+-- the pointers of the base table's rows: all where it is the known revision's, and all beside a write that it is ahead by
+pub record ArePointed (ahead : ℕ) (base : Tree) (queue : List Op) (kept : Kept) (written : Option OldFile) : Type 0 where
+  pub all : ahead ≡ 0 → PointsAll base kept
+  pub beside : (op : Op) (rest : List Op) → queue ≡ op ∷ rest → ahead ≡ 1 → PointsBeside base op.change kept written
+
+-- A flight of the first operation, which the base table has already. All rows of that table have pointers in it.
 pub record Flies (s : Inside) (a : Aloft) : Type 0 where
   pub number : a.flight.number ≡ s.journal.known + 1
   pub count : a.flight.count ≡ 1
   pub ahead : s.ahead ≡ 1
   pub clear : s.journal.mark ≡ false
+  pub all : PointsAll s.base a.kept
 
 -- What a session keeps whatever the folder: a revision is known, the queue can be spelled, what of it the base table
--- hasn't yet fits there and makes the table that is shown; the generation is one, and its key is there.
+-- hasn't yet fits there and makes the table that is shown; the base table's rows have pointers; the generation is one, and
+-- its key is there.
 pub record IsRunning (s : Inside) : Type 0 where
   pub known : 1 ≤ s.journal.known
   pub proper : AllByRecursion IsProper s.journal.queue
@@ -69,13 +83,17 @@ pub record IsRunning (s : Inside) : Type 0 where
   pub ahead : s.ahead ≤ length s.journal.queue
   pub fit : FitAll (drop s.ahead s.journal.queue) s.base
   pub shown : s.shown ≡ fold_ops (drop s.ahead s.journal.queue) s.base
+  pub pointed : ArePointed s.ahead s.base s.journal.queue s.kept s.written
   pub first : 1 ≤ s.generation
   pub last : s.generation ≤ 64
   pub keyed : IsSome (key_at s.ring s.generation)
   pub aloft : (a : Aloft) → s.aloft ≡ Some a → Flies s a
 
--- The base table has the operation, the pointers that it touched are dropped, and a file that it wrote is kept as it was.
+-- The base table has the operation, the pointers that it touched are dropped, and a file that it wrote is kept as it was. Of a
+-- write no other pointers are dropped.
 pub record HasDone (op : Op) (ahead ahead' : ℕ) (base base' : Tree) (kept kept' : Kept) (written written' : Option OldFile) : Type 0 where
   pub ahead_is : ahead' ≡ 1
   pub does : ((ahead ≡ 1) × (base' ≡ base) × AreOf kept' kept × (written' ≡ written))
       ⊎ ((ahead ≡ 0) × Fits op base × (base' ≡ apply op base) × AreLeft base op.change kept kept' × ((old : OldFile) → written' ≡ Some old → WasAt base kept op.change old))
+  pub beside : KeepsBeside base' op.change kept kept'
+  pub finds : ahead ≡ 0 → FindsOld base kept op.change written'

@@ -44,3 +44,4 @@ pub mod Behind
 pub mod Caches
 pub mod Patching
 pub mod Counting
+pub mod Few

@@ -80,6 +80,16 @@ abbrev pub WasAt : Tree → Kept → Change → OldFile → Type 0
 WasAt t kept (Sync node offset bytes long) old = IsOldAt t kept node old
 WasAt t kept change old = ⊥
 
+-- the file that the change writes is found, where its row is there and has a pointer
+abbrev pub FindsOld : Tree → Kept → Change → Option OldFile → Type 0
+FindsOld t kept (Sync node offset bytes long) old = IsSome (look t node) → IsSome (get kept node) → IsSome old
+FindsOld t kept change old = Unit {0}
+
+-- the old file has the size that the file has which the change writes
+abbrev pub HasSize : Tree → Change → OldFile → Type 0
+HasSize t (Sync node offset bytes long) old = (r : Row) × ((look t node ≡ Some r) × (length r.bytes ≡ old.size))
+HasSize t change old = Unit {0}
+
 -- the pointer holds the file as it was, where the change is a write
 abbrev pub IsOldOf : Vault → Tree → Change → OldFile → Type 0
 IsOldOf vault t (Sync node offset bytes long) old = IsOver vault t node offset bytes long old

@@ -4,7 +4,8 @@ use Rattle.kb_ops.specs.declared.rows.Op.{Op}
 use Rattle.kb_keys.specs.Rings.{key_at}
 use Rattle.kb_snap.specs.Pointers.{Kept}
 use Rattle.kb_device.specs.Caches.{Cache, Takes}
-use Rattle.kb_device.specs.Patching.{KeepsStep}
+use Rattle.kb_device.specs.Left.{PointsAll}
+use Rattle.kb_device.specs.Patching.{KeepsStep, StepMakes}
 use Rattle.kb_device.specs.Parts.{Flight}
 use Rattle.kb_device.specs.Stepping.{IsStepRequest}
 use Rattle.kb_device.specs.Inside.{Aloft, Inside, HasDone}
@@ -33,7 +34,8 @@ pub record GoesAhead (old new : Inside) : Type 0 where
 
 -- A request of the operation, which the base table has already, as the revision behind the known one, and its flight: once the
 -- request's blocks are added to some of the cache's that hold what was there before, the flight's pointers hold rows of the base
--- table.
+-- table. All its rows have pointers then. The request's blocks are those of the rows without a pointer, few of a file that was
+-- written.
 pub record IsMade (sealed signed : List ℕ → List ℕ → List ℕ) (hashed : List ℕ → List ℕ) (secret : List ℕ) (s : Inside) (op : Op) (left : Kept) (cache : Cache) (picked : Picked) (a : Aloft) : Type 0 where
   pub seq : picked.seq ≡ op.seq
   pub number : picked.number ≡ s.journal.known + 1
@@ -42,6 +44,8 @@ pub record IsMade (sealed signed : List ℕ → List ℕ → List ℕ) (hashed :
   pub keyed : key_at s.ring s.generation ≡ Some key
   pub made : IsStepRequest sealed signed hashed secret key s.generation picked.number s.journal.hash op s.base left cache (key_at s.ring) s.written picked.request
   pub pointers : KeepsStep sealed hashed cache (key_at s.ring) s.base left op.change s.written picked.request.blocks a.kept
+  pub all : PointsAll s.base a.kept
+  pub few : StepMakes sealed hashed cache (key_at s.ring) s.generation s.base left op.change s.written picked.request.blocks a.kept
 
 -- A request of the first operation of the queue is given, its flight is kept, and the cache takes its blocks.
 pub record Picks (sealed signed : List ℕ → List ℕ → List ℕ) (hashed : List ℕ → List ℕ) (secret : List ℕ) (old : Inside) (picked : Picked) (new : Inside) : Type 0 where

@@ -19,7 +19,7 @@ use Rattle.kb_folder.specs.Stands.{Revisions, keys_to}
 use Rattle.kb_folder.specs.Puts.{Held}
 use Rattle.kb_ops.specs.declared.rows.Op.{Op}
 use Rattle.kb_device.specs.Caches.{known_in}
-use Rattle.kb_device.specs.Patching.{IsOldOf}
+use Rattle.kb_device.specs.Patching.{IsOldOf, HasSize}
 use Rattle.kb_device.specs.declared.patching.OldFile.{OldFile}
 use Rattle.kb_device.specs.Remembering.{Remembers}
 use Rattle.kb_device.specs.Inside.{Aloft, Plan, Inside, IsRunning}
@@ -75,7 +75,7 @@ module _ (sealed signed : List ℕ → List ℕ → List ℕ) (hashed : List ℕ
     pub role : s.role ≡ p.role
     pub remembers : Remembers sealed hashed seed f c s.journal.known s.journal.hash s.generation s.kept s.cache
     pub held : AllHold (Opens sealed hashed (known_in s.cache (get f.blocks)) (keys_to seed s.generation)) (look s.base) s.kept
-    pub written : (op : Op) (rest : List Op) (old : OldFile) → s.journal.queue ≡ op ∷ rest → s.ahead ≡ 1 → s.written ≡ Some old → IsOldOf (Opens sealed hashed (known_in s.cache (get f.blocks)) (keys_to seed s.generation)) s.base op.change old
+    pub written : (op : Op) (rest : List Op) (old : OldFile) → s.journal.queue ≡ op ∷ rest → s.ahead ≡ 1 → s.written ≡ Some old → IsOldOf (Opens sealed hashed (known_in s.cache (get f.blocks)) (keys_to seed s.generation)) s.base op.change old × HasSize p.base op.change old
     pub ring : RingStands seed s.generation s.ring
     pub flight : p.flight ≡ option_map (λ (a : Aloft). a.flight) s.aloft
     pub plan : p.plan ≡ option_map (λ (x : Plan). x.number) s.plan

@@ -9,6 +9,7 @@ use crate::calling::has_stopped_calling;
 use crate::fetched::FetchFault;
 use crate::lent::Branch;
 use crate::part_laws::{picks_law, settles_law};
+use crate::patching::few_law;
 use crate::power::{arm, cut};
 use crate::resting::{fill, has_stopped, has_stopped_pulling, rest};
 use crate::session::Session;
@@ -41,10 +42,12 @@ pub struct Device<D: Disk, S: Sealer, H: BlockHash> {
 }
 
 impl<D: Disk, S: Sealer, H: BlockHash> Device<D, S, H> {
-    ghost use Rattle.std.specs.Prelude.{ℕ, List, Err, OnErr};
+    ghost use Rattle.std.specs.Prelude.{ℕ, List, Err, IfOk, OnErr};
     ghost use Rattle.kb_folder.specs.Chains.{Names};
-    ghost use Rattle.kb_device.specs.Devices.{Runs, GoesOn, HasFailed};
+    ghost use Rattle.kb_device.specs.Devices.{Runs, IsView, GoesOn, HasFailed};
     ghost use Rattle.kb_device.specs.Answering.{PickAnswers};
+    ghost use Rattle.kb_device.specs.Few.{PicksFew};
+    ghost use Rattle.kb_device.specs.Stands.{Member};
     ghost use Rattle.kb_device.specs.Noting.{NoteGoes};
     ghost use Rattle.kb_device.specs.Pulling.{PullAnswers, UnlessStopped};
     ghost use Rattle.kb_device.specs.Serving.{WaitsOn};
@@ -52,14 +55,17 @@ impl<D: Disk, S: Sealer, H: BlockHash> Device<D, S, H> {
     ghost use Rattle.kb_device.specs.declared.answers.PullFault.TheVariants as pull;
     ghost use Rattle.kb_device.specs.declared.answers.NoteFault.TheVariants as stop;
 
-    /// The request that lands the first operation of the queue, which is in flight then.
+    /// The request that lands the first operation of the queue, which is in flight then. Of a file that was written it has
+    /// few blocks, those that the write touches.
     pub fn pick(&mut self, alloc: Global) -> Result<Picked, PickFault>
         requires runs { ForSome self.old.session (Runs self.old.number) }
         ensures runs { ForSome self.new.session (Runs self.new.number) }
         ensures goes { (seed : List ℕ) (names : Names) → GoesOn self.old self.new (λ v w. PickAnswers S.sealed S.signed H.hashed seed names v w result) }
+        ensures few { (seed : List ℕ) (names : Names) (v : Member) → IsView self.old v → IfOk result (PicksFew S.sealed S.signed H.hashed seed names v) }
         ensures waits { OnErr result ((seed : List ℕ) → GoesOn self.old self.new (λ v w. WaitsOn S.sealed H.hashed seed v w)) }
     {
         picks_law::<S, H>();
+        few_law::<S, H>();
         let Some(session) = &mut self.session else {
             return Err(PickFault::Closed);
         };

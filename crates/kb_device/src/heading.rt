@@ -8,6 +8,7 @@ ghost use Rattle.kb_folder.specs.Held.{held, is_member};
 ghost use Rattle.kb_folder.specs.Goes.{HasChain};
 ghost use Rattle.kb_device.specs.Stands.{RingStands};
 ghost use Rattle.kb_device.specs.Heads.{ReadStands};
+ghost use Rattle.kb_device.specs.Left.{PointsAll};
 ghost use Rattle.kb_device.specs.Views.{read_of};
 ghost use Rattle.kb_device.specs.Filling.{IfRead};
 ghost use Rattle.kb_device.specs.Fresh.{IdsEndAt, IsLastOf};
@@ -62,6 +63,7 @@ pub fn read_head<S: Sealer, H: BlockHash>(
 ) -> Result<Head<H>, ReadFault>
     requires { 0 < length lent.now }
     ensures same { IfOk result (λ head. head.shown.tree ≡ head.base.tree) }
+    ensures all { IfOk result (λ head. PointsAll head.base.tree head.pointers) }
     ensures last { IfOk result (λ head. IsLastOf d head.base.tree head.last) }
     ensures stands { (seed : List ℕ) (names : Names) (c : Chain) (known : ℕ) → HasChain S.sealed S.signed H.hashed seed names (held folder.now) c → secret.now ≡ device_secret seed d → is_member (held folder.now) d ≡ true
         → generation ≡ generation_at c known → RingStands seed generation ring.now → known ≤ length c → map (λ b. b.items) lent.now ≡ drop known (reverse (held folder.now).revisions)
@@ -128,6 +130,7 @@ pub fn read_next<S: Sealer, H: BlockHash>(
     requires some { 0 < length lent.now }
     requires numbered { 1 ≤ d }
     ensures same { IfOk result (λ head. head.shown.tree ≡ head.base.tree) }
+    ensures all { IfOk result (λ head. PointsAll head.base.tree head.pointers) }
     ensures readable { IfOk result (λ head. is_readable known (read_of head) ≡ true) }
     ensures fresh { IfOk result (λ head. IdsEndAt d last head.base.tree) }
     ensures stands { (seed : List ℕ) (names : Names) (c : Chain) → HasChain S.sealed S.signed H.hashed seed names (held folder.now) c → secret.now ≡ device_secret seed d → is_member (held folder.now) d ≡ true

@@ -9,6 +9,7 @@ ghost use Rattle.kb_chain.specs.declared.revisions.RevisionKind.TheVariants.{Mer
 ghost use Rattle.kb_chain.specs.Revisions.{revision_text, signed_text, with_signature, IsRevision};
 ghost use Rattle.kb_chain.specs.Privates.{private_text, IsPrivate};
 ghost use Rattle.kb_folder.specs.Chains.{Names};
+ghost use Rattle.kb_device.specs.Left.{PointsAll};
 ghost use Rattle.kb_device.specs.Merging.{Branch, merge_private, merge_unsigned, IsMergeRequest, MergesAreFor, branch_of};
 
 use crate::step_requests::{StepMade, root_mtime};
@@ -112,6 +113,7 @@ pub fn merge_request<S: Sealer, H: BlockHash>(
     requires generation { (1 ≤ generation) × (generation ≤ 64) }
     ensures merge { IfOk result (λ made. IsMergeRequest S.sealed S.signed H.hashed secret.now key.now generation number head.now (branch_of device moment base first last ops.items) table.now.tree left.now made.request) }
     ensures pointers { IfOk result (λ made. OnceAllStored H.hashed S.sealed generation key.now made.request.blocks (λ vault. AllHold vault (look table.now.tree) left.now → AllHold vault (look table.now.tree) made.pointers)) }
+    ensures all { IfOk result (λ made. PointsAll table.now.tree made.pointers) }
 {
     table.is_well_formed();
     let built = build::<S, H>(alloc, table, left, key, generation)?;

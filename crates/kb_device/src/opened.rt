@@ -8,6 +8,7 @@ ghost use Rattle.kb_journal.specs.State.{HasState};
 ghost use Rattle.kb_folder.specs.Held.{held, is_member};
 ghost use Rattle.kb_device.specs.Fresh.{IsOwned};
 ghost use Rattle.kb_device.specs.Inside.{IsRunning};
+ghost use Rattle.kb_device.specs.Left.{PointsAll};
 ghost use Rattle.kb_device.specs.Views.{inside, platter, read_of};
 ghost use Rattle.kb_device.specs.Opening.{CanStart, taken_by, caught_by};
 ghost use Rattle.kb_device.specs.Opened.{started, Resumes, StopsResuming, Begins, OpenFails};
@@ -30,6 +31,7 @@ fn resume<D: Disk, H: BlockHash>(journal: Journal<D>, start: Start<H>) -> Result
     requires durable { EachImage D.content D.dirty journal.disk (HasState journal.state) }
     requires proper { AllByRecursion IsProper journal.state.queue }
     requires can { CanStart journal.state.known journal.state.queue start.taking (read_of start.head) start.head.shown.tree }
+    requires pointed { PointsAll start.head.base.tree start.head.pointers }
     ensures session { IfOk result (λ s. inside s ≡ started journal.state start.taking (read_of start.head) start.head.shown.tree start.head.role) }
     ensures running { IfOk result (λ s. IsRunning (inside s)) }
     ensures opened { IfOk result (λ s. s.journal.is_open ≡ true) }

@@ -13,6 +13,7 @@ ghost use Rattle.kb_device.specs.Pulling.{headed, IsReadable, is_readable};
 ghost use Rattle.kb_device.specs.Views.{platter, read_of};
 ghost use Rattle.kb_device.specs.Opening.{meets, taken_by, caught_by, CanTake, fault_of, IsSound, IfStarted, IsTakingOf, IsTakeable, IsStrange, IsApart, Takes, MayTake, Meets, count_of, number_of, target_of, CanStart, StartStands};
 ghost use Rattle.kb_device.specs.Fresh.{IdsEndAt};
+ghost use Rattle.kb_device.specs.Left.{PointsAll};
 ghost use Rattle.kb_device.specs.Past.{IsFirstOwn};
 ghost use Rattle.kb_device.specs.declared.past.Own.{Own};
 ghost use Rattle.kb_folder.specs.Chains.{Names};
@@ -357,6 +358,7 @@ fn find_head<S: Sealer, H: BlockHash>(
     ensures fit { IfOk result (λ head. FitAll left.now head.base.tree) }
     ensures shown { IfOk result (λ head. head.shown.tree ≡ fold_ops left.now head.base.tree) }
     ensures fresh { IfOk result (λ head. IdsEndAt d end head.base.tree) }
+    ensures all { IfOk result (λ head. PointsAll head.base.tree head.pointers) }
     ensures stands { (seed : List ℕ) (names : Names) (c : Chain) → HasChain S.sealed S.signed H.hashed seed names (held folder.now) c → secret.now ≡ device_secret seed d → is_member (held folder.now) d ≡ true
         → map (λ b. b.items) lent.now ≡ reverse (held folder.now).revisions → 1 ≤ number → length (ops_of d c) ≤ end
         → IfStarted result (λ head. ReadStands S.sealed H.hashed seed (held folder.now) c (read_of head) × (head.role ≡ roles_at c number d)) (¬ FitAll left.now (tree_at c number)) }
@@ -418,6 +420,7 @@ pub fn find_start<S: Sealer, H: BlockHash>(
     requires numbered { 1 ≤ d }
     ensures own { OnOk result (AreOf d queue.now) }
     ensures fresh { IfOk result (λ start. IdsEndAt d end start.head.base.tree) }
+    ensures all { IfOk result (λ start. PointsAll start.head.base.tree start.head.pointers) }
     ensures can { IfOk result (λ start. CanStart known queue.now start.taking (read_of start.head) start.head.shown.tree) }
     ensures stands { (seed : List ℕ) (names : Names) (c : Chain) (s : State) → HasChain S.sealed S.signed H.hashed seed names (held folder.now) c → secret.now ≡ device_secret seed d → is_member (held folder.now) d ≡ true
         → map (λ b. b.items) lent.now ≡ reverse (held folder.now).revisions → known ≡ s.known → hash.now ≡ s.hash → queue.now ≡ s.queue → end ≡ last_seq (plain s)

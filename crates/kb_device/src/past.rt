@@ -11,6 +11,7 @@ ghost use Rattle.kb_folder.specs.Goes.{HasChain};
 ghost use Rattle.kb_device.specs.Heads.{ReadStands};
 ghost use Rattle.kb_device.specs.Views.{read_of};
 ghost use Rattle.kb_device.specs.Filling.{IfRead};
+ghost use Rattle.kb_device.specs.Left.{PointsAll};
 ghost use Rattle.kb_device.specs.Fresh.{IsLastOf};
 ghost use Rattle.kb_device.specs.Pulling.{is_readable};
 ghost use Rattle.kb_device.specs.Past.{role_with, IsOwnAt, IsFirstOwn};
@@ -141,6 +142,7 @@ pub fn read_at<S: Sealer, H: BlockHash>(
 ) -> Result<Head<H>, ReadFault>
     requires { (1 ≤ number) × (number ≤ length lent.now) }
     ensures same { IfOk result (λ head. head.shown.tree ≡ head.base.tree) }
+    ensures all { IfOk result (λ head. PointsAll head.base.tree head.pointers) }
     ensures last { IfOk result (λ head. IsLastOf d head.base.tree head.last) }
     ensures number { IfOk result (λ head. head.number ≡ number) }
     ensures readable { IfOk result (λ head. is_readable 0 (read_of head) ≡ true) }

@@ -1,8 +1,10 @@
 //! The blocks of a tree after an operation. A file that was written is patched by the blocks that the write touches.
-ghost use Rattle.std.specs.Prelude.{◌≡◌, ◌≤◌, ◌+◌, Some, IfOk, IsSome, length};
+ghost use Rattle.std.specs.Prelude.{◌≡◌, ◌≤◌, ◌+◌, false, Some, IfOk, IsSome, length};
 ghost use Rattle.std.specs.FinMap as map;
+ghost use Rattle.kb_name.specs.declared.ids.NodeId.{NodeId};
 ghost use Rattle.kb_name.specs.Nodes.{root as root_id};
 ghost use Rattle.kb_ops.specs.Grammar.{IsProper};
+ghost use Rattle.kb_ops.specs.Plan.{is_below};
 ghost use Rattle.kb_ops.specs.Trees.{look};
 ghost use Rattle.kb_keys.specs.Rings.{key_at};
 ghost use Rattle.kb_snap.specs.Builds.{OnceAllStored, IsMade};
@@ -10,9 +12,9 @@ ghost use Rattle.kb_snap.specs.Holds.{Holds};
 ghost use Rattle.kb_snap.specs.Pointers.{AllHold};
 ghost use Rattle.kb_ranges.specs.Patches.{FewBlocks, FileHeld};
 ghost use Rattle.kb_device.specs.Counting.{TakesFew};
-ghost use Rattle.kb_device.specs.Left.{AreOf};
+ghost use Rattle.kb_device.specs.Left.{AreOf, KeepsBeside, PointsAll};
 ghost use Rattle.kb_device.specs.declared.patching.OldFile.{OldFile};
-ghost use Rattle.kb_device.specs.Patching.{BuildsWritten, MakesFew, BuildsStep, MakesRest, StepMakes, IsOldAt, WasAt};
+ghost use Rattle.kb_device.specs.Patching.{BuildsWritten, MakesFew, BuildsStep, MakesRest, StepMakes, IsOldAt, WasAt, FindsOld};
 
 use kb_blocks::{BlockHash, Ptr, Store};
 use kb_edge::Memory;
@@ -46,7 +48,9 @@ fn build_with<S: Sealer, H: BlockHash>(
     ensures tree { IfOk result (λ built. OnceAllStored H.hashed S.sealed generation key.now built.blocks (λ vault. AllHold vault (look table.now.tree) (map.insert left.old node ptr) → Holds vault (look table.now.tree) root_id built.root)) }
     ensures holds { IfOk result (λ built. OnceAllStored H.hashed S.sealed generation key.now built.blocks (λ vault. AllHold vault (look table.now.tree) (map.insert left.old node ptr) → AllHold vault (look table.now.tree) built.pointers)) }
     ensures made { IfOk result (λ built. IsMade S.sealed H.hashed key.now generation table.now.tree (map.insert left.old node ptr) built.pointers built.blocks) }
+    ensures all { IfOk result (λ built. PointsAll table.now.tree built.pointers) }
     ensures left { AreOf left.new left.old }
+    ensures beside { (q : NodeId) → is_below table.now.tree q node ≡ false → map.get left.new q ≡ map.get left.old q }
 {
     match left.set(node, ptr) {
         Ok(()) => {}
@@ -75,6 +79,7 @@ fn build_whole<S: Sealer, H: BlockHash>(
     requires refused { (few : FewBlocks) → FileHeld S.sealed H.hashed (map.get store.now) (key_at keys.now) old.size old.ptr few → ⊥ }
     ensures holds { IfOk result (λ built. BuildsWritten S.sealed H.hashed (map.get store.now) (key_at keys.now) table.now.tree left.now node old.ptr old.size offset bytes.now new_size built.root built.blocks built.pointers) }
     ensures few { IfOk result (λ built. MakesFew S.sealed H.hashed (map.get store.now) (key_at keys.now) generation table.now.tree left.now node old.ptr old.size offset bytes.now new_size built.blocks built.pointers) }
+    ensures all { IfOk result (λ built. PointsAll table.now.tree built.pointers) }
 {
     let Some(key) = keys.key(generation) else {
         unreachable!()
@@ -103,7 +108,9 @@ fn build_written<S: Sealer, H: BlockHash>(
     requires key { IsSome (key_at keys.now generation) }
     ensures holds { IfOk result (λ built. BuildsWritten S.sealed H.hashed (map.get store.now) (key_at keys.now) table.now.tree left.old node old.ptr old.size offset bytes.now new_size built.root built.blocks built.pointers) }
     ensures few { IfOk result (λ built. MakesFew S.sealed H.hashed (map.get store.now) (key_at keys.now) generation table.now.tree left.old node old.ptr old.size offset bytes.now new_size built.blocks built.pointers) }
+    ensures all { IfOk result (λ built. PointsAll table.now.tree built.pointers) }
     ensures left { AreOf left.new left.old }
+    ensures beside { (q : NodeId) → is_below table.now.tree q node ≡ false → map.get left.new q ≡ map.get left.old q }
 {
     let Some(key) = keys.key(generation) else {
         unreachable!()
@@ -148,6 +155,7 @@ fn build_rest<S: Sealer, H: BlockHash>(
     requires key { IsSome (key_at keys.now generation) }
     ensures holds { IfOk result (λ built. BuildsStep S.sealed H.hashed cache.now (key_at keys.now) table.now.tree left.now op.now.change old built.root built.blocks built.pointers) }
     ensures made { IfOk result (λ built. MakesRest S.sealed H.hashed (key_at keys.now) generation table.now.tree left.now built.blocks built.pointers) }
+    ensures all { IfOk result (λ built. PointsAll table.now.tree built.pointers) }
 {
     let Some(key) = keys.key(generation) else {
         unreachable!()
@@ -173,7 +181,9 @@ pub fn build_step<S: Sealer, H: BlockHash>(
     requires key { IsSome (key_at keys.now generation) }
     ensures holds { IfOk result (λ built. BuildsStep S.sealed H.hashed cache.now (key_at keys.now) table.now.tree left.old op.now.change old built.root built.blocks built.pointers) }
     ensures few { IfOk result (λ built. StepMakes S.sealed H.hashed cache.now (key_at keys.now) generation table.now.tree left.old op.now.change old built.blocks built.pointers) }
+    ensures all { IfOk result (λ built. PointsAll table.now.tree built.pointers) }
     ensures left { AreOf left.new left.old }
+    ensures beside { KeepsBeside table.now.tree op.now.change left.old left.new }
 {
     let Some(file) = old else {
         return build_rest::<S, H>(alloc, table, left, op, old, cache, keys, generation);
@@ -205,7 +215,8 @@ pub fn build_step<S: Sealer, H: BlockHash>(
 }
 
 fn old_at(pointers: &Pointers, table: &Table, node: NodeId) -> Option<OldFile>
-    ensures { (old : OldFile) → result ≡ Some old → IsOldAt table.now.tree pointers.now node old }
+    ensures is { (old : OldFile) → result ≡ Some old → IsOldAt table.now.tree pointers.now node old }
+    ensures finds { IsSome (look table.now.tree node) → IsSome (map.get pointers.now node) → IsSome result }
 {
     let ptr = match pointers.get(node) {
         Some(ptr) => ptr,
@@ -221,7 +232,8 @@ fn old_at(pointers: &Pointers, table: &Table, node: NodeId) -> Option<OldFile>
 
 /// The pointer and the size of the file that a change writes, by the tree and its pointers before the change.
 pub fn old_file(pointers: &Pointers, table: &Table, change: &Change) -> Option<OldFile>
-    ensures { (old : OldFile) → result ≡ Some old → WasAt table.now.tree pointers.now change.now old }
+    ensures is { (old : OldFile) → result ≡ Some old → WasAt table.now.tree pointers.now change.now old }
+    ensures finds { FindsOld table.now.tree pointers.now change.now result }
 {
     match change {
         Change::Sync { node, .. } => old_at(pointers, table, *node),

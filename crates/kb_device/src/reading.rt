@@ -1,5 +1,5 @@
 //! Reading the keys that a folder keeps for a device.
-ghost use Rattle.std.specs.Prelude.{◌≡◌, ◌≤◌, ℕ, List, [], ◌∷◌, length, map, drop, reverse, true};
+ghost use Rattle.std.specs.Prelude.{◌≡◌, ◌≤◌, ℕ, List, [], ◌∷◌, IfOk, length, map, drop, reverse, true};
 ghost use Rattle.std.specs.FinMap.{get};
 ghost use Rattle.kb_ops.specs.Trees.{Tree, look};
 ghost use Rattle.kb_keys.specs.Rings.{key_at};
@@ -19,6 +19,7 @@ ghost use Rattle.kb_folder.specs.Reading.{places_behind};
 ghost use Rattle.kb_folder.specs.Held.{held};
 ghost use Rattle.kb_device.specs.Stands.{RingStands};
 ghost use Rattle.kb_device.specs.Caches.{known_in};
+ghost use Rattle.kb_device.specs.Left.{PointsAll};
 ghost use Rattle.kb_device.specs.Filling.{is_wanted, IsServed, IfRead, HasKeysOf};
 
 use crate::caching::cache_of;
@@ -233,8 +234,9 @@ fn load_tree<S: Sealer, H: BlockHash>(
     ring: &KeyRing,
     private: &Private,
 ) -> Result<(Table, Pointers, Option<Store<H>>), ReadFault>
-    ensures { (t : Tree) → HoldsTree (Opens S.sealed H.hashed (get (held folder.now).blocks) (key_at ring.now)) private.now.root private.now.mtime t
+    ensures read { (t : Tree) → HoldsTree (Opens S.sealed H.hashed (get (held folder.now).blocks) (key_at ring.now)) private.now.root private.now.mtime t
         → IfRead result (λ made. (made.0.tree ≡ t) × AllHold (Opens S.sealed H.hashed (known_in made.2 (get (held folder.now).blocks)) (key_at ring.now)) (look made.0.tree) made.1) }
+    ensures all { IfOk result (λ made. PointsAll made.0.tree made.1) }
 {
     one_tree_law::<S, H>();
     let store = folder.store();
@@ -257,9 +259,10 @@ pub fn read_tree<S: Sealer, H: BlockHash>(
     ring: &KeyRing,
     bytes: &[u8],
 ) -> Result<(Table, Pointers, Option<Store<H>>), ReadFault>
-    ensures { (seed : List ℕ) (names : Names) (bs : Revisions) (c : Back) (x : Plain) → IsWritten S.sealed S.signed H.hashed seed names (get (held folder.now).blocks) bs c bytes.now x
+    ensures read { (seed : List ℕ) (names : Names) (bs : Revisions) (c : Back) (x : Plain) → IsWritten S.sealed S.signed H.hashed seed names (get (held folder.now).blocks) bs c bytes.now x
         → RingStands seed (generation_in (x ∷ c)) ring.now
         → IfRead result (λ made. (made.0.tree ≡ tree_at (x ∷ c) (length (x ∷ c))) × AllHold (Opens S.sealed H.hashed (known_in made.2 (get (held folder.now).blocks)) (keys_to seed (generation_in (x ∷ c)))) (look made.0.tree) made.1) }
+    ensures all { IfOk result (λ made. PointsAll made.0.tree made.1) }
 {
     let revision = match decode(alloc, bytes) {
         Ok(revision) => revision,

@@ -17,7 +17,7 @@ ghost use Rattle.kb_device.specs.Fresh.{IsOwned};
 ghost use Rattle.kb_device.specs.Inside.{IsRunning, HasDone};
 ghost use Rattle.kb_device.specs.Views.{inside, aloft_of, platter, read_of};
 ghost use Rattle.kb_device.specs.Caches.{Takes};
-ghost use Rattle.kb_device.specs.Left.{AreOf};
+ghost use Rattle.kb_device.specs.Left.{AreOf, KeepsBeside, PointsAll};
 ghost use Rattle.kb_device.specs.Picking.{PickDoes, FirstOf, IsMade, with_left};
 ghost use Rattle.kb_device.specs.declared.answers.PickFault.TheVariants as fault;
 
@@ -143,6 +143,7 @@ impl<D: Disk, H: BlockHash> Session<D, H> {
         ensures takes { IfOk result (λ made. Takes H.hashed self.old.cache made.0.request.blocks self.new.cache) }
         ensures session { inside self.new ≡ with_left (inside self.old) (inside self.new) }
         ensures left { AreOf self.new.pointers self.old.pointers }
+        ensures beside { KeepsBeside self.old.base.tree op.change self.old.pointers self.new.pointers }
         ensures cache { OnErr result (self.new.cache ≡ self.old.cache) }
         ensures journal { self.new.journal ≡ self.old.journal }
     {
@@ -233,6 +234,7 @@ impl<D: Disk, H: BlockHash> Session<D, H> {
         requires flushed { self.old.journal.state.queue ≡ [] }
         requires later { self.old.journal.state.known ≤ head.number }
         requires readable { IsReadable (read_of head) }
+        requires pointed { PointsAll head.base.tree head.pointers }
         requires same { head.shown.tree ≡ head.base.tree }
         ensures session { OnOk result (inside self.new ≡ with_head (inside self.old) (read_of head) head.role) }
         ensures running { OnOk result (IsRunning (inside self.new)) }

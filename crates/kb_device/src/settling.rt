@@ -8,6 +8,7 @@ ghost use Rattle.kb_journal.specs.State.{allows};
 ghost use Rattle.kb_journal.specs.declared.entries.Entry.TheVariants as entry;
 ghost use Rattle.kb_keys.specs.Rings.{key_at};
 ghost use Rattle.kb_device.specs.Inside.{IsRunning};
+ghost use Rattle.kb_device.specs.Left.{PointsAll};
 ghost use Rattle.kb_device.specs.Settling.{ends, IsAsked, SettleDoes, UnlessEnded, resolved, with_merge, CanSettle, can_settle};
 ghost use Rattle.kb_device.specs.Noting.{Writes, Stops};
 ghost use Rattle.kb_device.specs.Views.{inside, plan_of, platter};
@@ -75,7 +76,8 @@ impl<D: Disk, H: BlockHash> Session<D, H> {
         requires running { IsRunning (inside self.now) }
         requires numbered { 1 ≤ d }
         requires can { CanSettle (inside self.now) (plan_of goal.now) }
-        ensures { IfOk result (λ made. IsAsked S.sealed S.signed H.hashed d secret.now moment (inside self.now) (plan_of goal.now) table.now.tree made.request made.pointers) }
+        ensures asked { IfOk result (λ made. IsAsked S.sealed S.signed H.hashed d secret.now moment (inside self.now) (plan_of goal.now) table.now.tree made.request made.pointers) }
+        ensures all { IfOk result (λ made. PointsAll table.now.tree made.pointers) }
     {
         let queue = self.journal.queue();
         let count = self.queue_len();
@@ -116,6 +118,7 @@ impl<D: Disk, H: BlockHash> Session<D, H> {
         requires opened { self.old.journal.is_open ≡ true }
         requires can { CanSettle (inside self.old) (plan_of goal) }
         requires same { shown.tree ≡ table.tree }
+        requires pointed { PointsAll table.tree pointers }
         ensures number { IfOk result (λ n. n ≡ goal.number + 1) }
         ensures session { OnOk result (inside self.new ≡ with_merge (inside self.old) (plan_of goal) table.tree pointers hash role) }
         ensures running { OnOk result (IsRunning (inside self.new)) }

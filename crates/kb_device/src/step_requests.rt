@@ -9,8 +9,8 @@ ghost use Rattle.kb_chain.specs.declared.revisions.RevisionKind.TheVariants.{Ste
 ghost use Rattle.kb_chain.specs.Revisions.{revision_text, signed_text, with_signature, IsRevision};
 ghost use Rattle.kb_chain.specs.Privates.{private_text, IsPrivate};
 ghost use Rattle.kb_folder.specs.Chains.{Names};
-ghost use Rattle.kb_device.specs.Left.{AreOf};
-ghost use Rattle.kb_device.specs.Patching.{KeepsStep};
+ghost use Rattle.kb_device.specs.Left.{AreOf, KeepsBeside, PointsAll};
+ghost use Rattle.kb_device.specs.Patching.{KeepsStep, StepMakes};
 ghost use Rattle.kb_device.specs.Stepping.{step_private, step_unsigned, IsStepRequest, StepsAreFor};
 ghost use Rattle.kb_device.specs.Remembering.{RemembersLonger, RemembersGives, RemembersTaken};
 
@@ -125,7 +125,10 @@ pub fn step_request<S: Sealer, H: BlockHash>(
     requires keyed { key_at ring.now generation ≡ Some key.now }
     ensures step { IfOk result (λ made. IsStepRequest S.sealed S.signed H.hashed secret.now key.now generation number head.now op table.now.tree left.old cache.now (key_at ring.now) old made.request) }
     ensures pointers { IfOk result (λ made. KeepsStep S.sealed H.hashed cache.now (key_at ring.now) table.now.tree left.old op.change old made.request.blocks made.pointers) }
+    ensures few { IfOk result (λ made. StepMakes S.sealed H.hashed cache.now (key_at ring.now) generation table.now.tree left.old op.change old made.request.blocks made.pointers) }
+    ensures all { IfOk result (λ made. PointsAll table.now.tree made.pointers) }
     ensures left { AreOf left.new left.old }
+    ensures beside { KeepsBeside table.now.tree op.change left.old left.new }
 {
     table.is_well_formed();
     let device = op.device;

@@ -14,3 +14,5 @@ pub mod Pushed
 pub mod Short
 pub mod Used
 pub mod Zeros
+pub mod Queueing
+pub mod Armed

@@ -1,3 +1,4 @@
+pub mod Queued
 pub mod Adding
 pub mod Entries
 pub mod Held

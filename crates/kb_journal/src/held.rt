@@ -1,5 +1,5 @@
 //! The state of a journal in memory.
-ghost use Rattle.std.specs.Prelude.{◌≡◌, ◌+◌, ◌*◌, ◌<◌, ◌≤◌, ◌^◌, ◌++◌, [], ◌∷◌, true, drop, length, map, sum_by, vec_len, IfOk, IfErr, OnOk, OnErr, IsErrOf, ⊤};
+ghost use Rattle.std.specs.Prelude.{◌≡◌, ◌+◌, ◌*◌, ◌<◌, ◌≤◌, ◌^◌, ◌++◌, [], ◌∷◌, true, drop, length, map, sum_by, IfOk, IfErr, OnOk, OnErr, IsErrOf, ⊤};
 ghost use Rattle.kb_ops.specs.Grammar.{IsProper};
 ghost use Rattle.kb_log.specs.LogList.{lists_of};
 ghost use Rattle.kb_journal.specs.Entries.{entry_text, IsEntry};
@@ -7,6 +7,7 @@ ghost use Rattle.kb_journal.specs.State.{State, Steps, empty, last_seq, allows, 
 
 use crate::entries::{Entry, EntryFault, Hash, Note};
 use crate::faults::AddFault;
+use crate::queue::Queue;
 use crate::ranges::op_fits;
 use crate::reading::read_entry;
 use kb_edge::Memory;
@@ -20,14 +21,14 @@ pub struct Held {
     pub hash: Hash,
     pub base: u32,
     pub mark: bool,
-    pub ops: Vec<Operation>,
-    pub texts: Vec<Vec<u8>>,
+    pub ops: Queue<Operation>,
+    pub texts: Queue<Vec<u8>>,
     pub used: u64,
     pub ghost spelled: { lists_of texts.items ≡ map queued_text ops.items },
-    pub ghost few: { vec_len ops ≤ 4096 },
-    pub ghost last_fits: { base + vec_len ops < 2 ^ 32 },
+    pub ghost few: { length ops.items ≤ 4096 },
+    pub ghost last_fits: { base + length ops.items < 2 ^ 32 },
     pub ghost counted: { used ≡ use_of ops.items },
-    pub ghost bounded: { used ≤ 48 + 2 ^ 17 * (base + vec_len ops) },
+    pub ghost bounded: { used ≤ 48 + 2 ^ 17 * (base + length ops.items) },
 }
 
 impl Held {
@@ -46,8 +47,8 @@ impl Held {
             hash,
             base: 0,
             mark: false,
-            ops: Vec::new(alloc),
-            texts: Vec::new(alloc),
+            ops: Queue::new(alloc),
+            texts: Queue::new(alloc),
             used: 48,
         }
     }
@@ -67,7 +68,7 @@ impl Held {
         match entry {
             Entry::Op(op) => {
                 u64::from(op.seq) == u64::from(self.last()) + 1
-                    && (queued < 4096 && takes_device(&self.ops, op.device))
+                    && (queued < 4096 && takes_device(self.ops.as_slice(), op.device))
             }
             Entry::Landed { number, .. } => {
                 0 < queued && (!self.mark && u64::from(*number) == u64::from(self.known) + 1)
@@ -84,7 +85,7 @@ impl Held {
 
     /// Queues an operation.
     pub fn queue(&mut self, op: Operation, text: Vec<u8>) -> Result<(), Memory>
-        requires few { vec_len self.old.ops < 4096 }
+        requires few { length self.old.ops.items < 4096 }
         requires next { last_seq (state_of self.old) + 1 < 2 ^ 32 }
         requires text { text.items ≡ queued_text op }
         requires short { length text.items ≤ 100000 }
@@ -92,22 +93,18 @@ impl Held {
         ensures err { OnErr result (state_of self.new ≡ state_of self.old) }
         ensures texts { OnOk result (self.new.texts.items ≡ self.old.texts.items ++ text ∷ []) }
     {
-        self.ops.reserve(1)?;
-        self.texts.reserve(1)?;
+        self.ops.reserve()?;
+        self.texts.reserve()?;
         let added = record_len(&text);
-        let Ok(()) = self.ops.push(op) else {
-            unreachable!()
-        };
-        let Ok(()) = self.texts.push(text) else {
-            unreachable!()
-        };
+        self.ops.push(op);
+        self.texts.push(text);
         self.used += added;
         Ok(())
     }
 
     /// Queues a copy of an operation.
     pub fn queue_copy(&mut self, op: &Operation, text: Vec<u8>) -> Result<(), Memory>
-        requires few { vec_len self.old.ops < 4096 }
+        requires few { length self.old.ops.items < 4096 }
         requires next { last_seq (state_of self.old) + 1 < 2 ^ 32 }
         requires text { text.items ≡ queued_text op.now }
         requires short { length text.items ≤ 100000 }
@@ -150,12 +147,12 @@ impl Held {
 
     // The first of the queue leave.
     fn leave(&mut self, n: usize)
-        requires { n ≤ vec_len self.old.ops }
+        requires { n ≤ length self.old.ops.items }
         ensures { state_of self.new ≡ record (state_of self.old) { base = self.old.base + n; queue = drop n self.old.ops.items } }
     {
-        let gone = records_len(&self.texts, n);
-        drop_front(&mut self.ops, n);
-        drop_front(&mut self.texts, n);
+        let gone = records_len(self.texts.as_slice(), n);
+        self.ops.leave(n);
+        self.texts.leave(n);
         self.base += n as u32;
         self.used -= gone;
     }
@@ -305,16 +302,6 @@ fn records_len(texts: &[Vec<u8>], n: usize) -> u64
         bytes += texts[i].len() as u64 + 5;
     }
     bytes
-}
-
-// Drops the first n.
-fn drop_front<T: Drop>(items: &mut Vec<T>, n: usize)
-    requires { n ≤ vec_len items.old }
-    ensures items { items.new.items ≡ drop n items.old.items }
-    ensures len { vec_len items.new + n ≡ vec_len items.old }
-{
-    items.rotate_left(n);
-    items.truncate(items.len() - n);
 }
 
 fn takes_device(queue: &[Operation], device: u16) -> bool

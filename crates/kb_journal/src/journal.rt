@@ -140,7 +140,7 @@ impl<D: Disk> Journal<D> {
     pub fn queue(&self) -> &[Operation]
         ensures { result.now ≡ self.now.state.queue }
     {
-        &self.ready.held.ops
+        self.ready.held.ops.as_slice()
     }
 
     /// The number of the known revision, or 0.

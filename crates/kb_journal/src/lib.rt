@@ -10,6 +10,7 @@ mod journal;
 mod laws;
 mod lines;
 mod pieces;
+mod queue;
 mod ranges;
 mod reading;
 mod ready;

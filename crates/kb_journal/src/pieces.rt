@@ -74,7 +74,7 @@ pub fn build(bytes: &mut Vec<u8>, ends: &mut Vec<u32>, held: &Held)
     ensures ends_room { vec_capacity ends.old ≤ vec_capacity ends.new }
 {
     begin(bytes, ends, held);
-    for text in &held.texts {
+    for text in held.texts.as_slice() {
         add(bytes, ends, text);
     }
 }

@@ -112,7 +112,7 @@ impl Ready {
             Err(Memory) => return Err(AddFault::Memory),
         }
         let held = &self.held;
-        let Some(payload) = held.texts.last() else {
+        let Some(payload) = held.texts.as_slice().last() else {
             unreachable!()
         };
         match write_change(log, &mut self.bytes, &mut self.ends, held, payload) {

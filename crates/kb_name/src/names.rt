@@ -63,6 +63,17 @@ impl Name {
         Ok(Name { text })
     }
 
+    /// The name that a text is, if it is one.
+    pub(crate) fn from_text(text: Vec<u8>) -> Result<Self, NameFault>
+        ensures name { IfOk result (λ n. (n ≡ text.items) × (is_name text.items ≡ true)) }
+        ensures bad_name { result ≡ Err NameFault.BadName → is_name text.items ≡ false }
+    {
+        if !is_name(&text) {
+            return Err(NameFault::BadName);
+        }
+        Ok(Name { text })
+    }
+
     /// The name that a text is.
     pub(crate) fn of_text(text: Vec<u8>) -> Self
         requires { is_name text.items ≡ true }

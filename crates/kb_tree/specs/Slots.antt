@@ -1,8 +1,8 @@
 -- How a table keeps its rows: in slots, in no order, with two lists of the slots, by id and by place.
-use Rattle.std.specs.Prelude.{◌≡◌, ℕ, ◌<◌, ◌≤◌, ◌^◌, ◌&&◌, Bool, false, min, List, [], ◌∷◌, map, length, slice_index_or, if◌then◌else◌, nat_eq, Some}
+use Rattle.std.specs.Prelude.{◌≡◌, ℕ, ◌<◌, ◌≤◌, ◌^◌, ◌&&◌, Bool, false, min, List, [], ◌∷◌, map, length, slice_index_or, slice_set, if◌then◌else◌, nat_eq, Some}
 use Rattle.kb_name.specs.declared.ids.NodeId.{NodeId}
 use Rattle.kb_ops.specs.declared.rows.Row.{Row}
-use Rattle.kb_ops.specs.Trees.{Tree, look, root_row}
+use Rattle.kb_ops.specs.Trees.{Tree, look, root_row, patched}
 use Rattle.kb_ops.specs.Lists.{tree_of}
 use Rattle.std.specs.List.{insert, remove}
 use Rattle.std.specs.Str.{bytes_eq}
@@ -72,3 +72,25 @@ abbrev pub followed : List Row → List ℕ → ℕ → Row → List ℕ
 followed rows slots slot row =
     if stays rows slot row then slots
     else let left = remove slots (spot_place rows slots slot) in insert left (place_in_order spot_cmp (row.parent, row.name) (spots_in rows left)) slot
+
+-- ---- a row that is changed where it stands
+
+-- at another place
+abbrev pub moved : NodeId → List ℕ → Row → Row
+moved parent name r = record r { parent = parent; name = name }
+
+-- with another mark
+abbrev pub with_exec : Bool → Row → Row
+with_exec on r = record r { exec = on }
+
+-- at another time
+abbrev pub with_mtime : ℕ → Row → Row
+with_mtime mtime r = record r { mtime = mtime }
+
+-- after a write
+abbrev pub written : ℕ → List ℕ → ℕ → ℕ → Row → Row
+written offset bytes size mtime r = record r { bytes = patched r.bytes offset bytes size; mtime = mtime }
+
+-- the rows with one of them changed
+abbrev pub changed : List Row → ℕ → (Row → Row) → List Row
+changed rows slot f = slice_set rows slot (f (row_in rows slot))

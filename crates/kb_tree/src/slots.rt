@@ -1,17 +1,19 @@
 //! Rows in slots, and lists of slots in the order of the rows' ids.
-ghost use Rattle.std.specs.Prelude.{◌≡◌, ◌≤◌, ◌<◌, true, find, slice_get, length, IfOk, OnOk, ◌^◌, vec_len, slice_set, ◌≢◌};
+ghost use Rattle.std.specs.Prelude.{◌≡◌, ◌+◌, ◌≤◌, ◌<◌, true, find, slice_get, length, max, IfOk, OnOk, ◌^◌, vec_len, slice_set, ◌≢◌};
 ghost use Rattle.std.specs.Option.{option_copied};
 ghost use Rattle.std.specs.Vec.{vec_capacity};
 ghost use Rattle.std.specs.List.{insert, range_with_len};
 ghost use Rattle.kb_name.specs.Nodes.{same_node};
 ghost use Rattle.kb_ops.specs.Lists.{rises, place_of};
 ghost use Rattle.kb_ops.specs.declared.rows.Row.{Row};
-ghost use Rattle.kb_tree.specs.Slots.{row_in, rows_in, ids_in, AreWithin, redirected};
+ghost use Rattle.kb_tree.specs.Slots.{row_in, rows_in, ids_in, AreWithin, redirected, changed, moved, with_exec, with_mtime, written};
 
+use super::patching::patched;
 use kb_edge::Memory;
-use kb_name::NodeId;
-use kb_ops::Row;
+use kb_name::{Moment, Name, NodeId};
+use kb_ops::{Bytes, Row};
 use std::alloc::{AllocError, Global};
+use std::mem;
 
 /// The id of a slot's row.
 pub fn id_in(rows: &[Row], slot: u32) -> NodeId
@@ -162,4 +164,62 @@ fn below(alloc: Global, count: u32) -> Result<Vec<u32>, Memory>
         slots.push(slot)?;
     }
     Ok(slots)
+}
+
+/// Puts the row of a slot at another place.
+pub fn set_place(rows: &mut Vec<Row>, slot: u32, parent: NodeId, name: Name)
+    requires { slot < length rows.old.items }
+    ensures items { rows.new.items ≡ changed rows.old.items slot (moved parent name) }
+    ensures len { vec_len rows.new ≡ vec_len rows.old }
+    ensures capacity { vec_capacity rows.new ≡ vec_capacity rows.old }
+{
+    let row = &mut rows[slot as usize];
+    row.parent = parent;
+    row.name = name;
+}
+
+/// Sets the exec mark of the row of a slot.
+pub fn set_exec(rows: &mut Vec<Row>, slot: u32, on: bool)
+    requires { slot < length rows.old.items }
+    ensures items { rows.new.items ≡ changed rows.old.items slot (with_exec on) }
+    ensures len { vec_len rows.new ≡ vec_len rows.old }
+    ensures capacity { vec_capacity rows.new ≡ vec_capacity rows.old }
+{
+    let row = &mut rows[slot as usize];
+    row.exec = on;
+}
+
+/// Sets the time of the row of a slot.
+pub fn set_mtime(rows: &mut Vec<Row>, slot: u32, mtime: Moment)
+    requires { slot < length rows.old.items }
+    ensures items { rows.new.items ≡ changed rows.old.items slot (with_mtime mtime) }
+    ensures len { vec_len rows.new ≡ vec_len rows.old }
+    ensures capacity { vec_capacity rows.new ≡ vec_capacity rows.old }
+{
+    let row = &mut rows[slot as usize];
+    row.mtime = mtime;
+}
+
+/// Writes into the bytes of the row of a slot. Where they outgrow their buffer they move to the spare one.
+pub fn write(
+    rows: &mut Vec<Row>,
+    slot: u32,
+    offset: u32,
+    bytes: &[u8],
+    size: u32,
+    mtime: Moment,
+    spare: Vec<u8>,
+)
+    requires there { slot < length rows.old.items }
+    requires within { offset + length bytes.now ≤ size }
+    requires room { size ≤ max (length (row_in rows.old.items slot).bytes) (vec_capacity spare) }
+    ensures items { rows.new.items ≡ changed rows.old.items slot (written offset bytes.now size mtime) }
+    ensures len { vec_len rows.new ≡ vec_len rows.old }
+    ensures capacity { vec_capacity rows.new ≡ vec_capacity rows.old }
+{
+    let row = &mut rows[slot as usize];
+    let none = Bytes::new(Vec::new(*spare.allocator()));
+    let old = mem::replace(&mut row.bytes, none);
+    row.bytes = Bytes::new(patched(old.into_vec(), offset, bytes, size, spare));
+    row.mtime = mtime;
 }

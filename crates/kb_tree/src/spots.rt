@@ -9,7 +9,7 @@ ghost use Rattle.std.specs.FinMap.Entries as entries;
 ghost use Rattle.kb_ops.specs.Sorted.{place_in_order};
 ghost use Rattle.std.specs.Option.{option_copied};
 ghost use Rattle.kb_ops.specs.Spots.{spot_cmp, spot_of};
-ghost use Rattle.kb_tree.specs.Slots.{row_in, spot_in, spots_in, redirected, spot_place, IsMoved, followed};
+ghost use Rattle.kb_tree.specs.Slots.{row_in, spot_in, spots_in, redirected, spot_place, IsMoved, followed, moved};
 
 use super::slots::{id_in, put, put_over, row_in, slot_at};
 use kb_edge::Memory;
@@ -80,20 +80,20 @@ pub fn redirect(rows: &[Row], slots: &mut Vec<u32>, last: u32, slot: u32)
 
 /// Puts the slot of a row that is about to change to another place where it belongs then. The list has room for it,
 /// since it had the slot before.
-pub fn follow(rows: &[Row], slots: &mut Vec<u32>, slot: u32, row: &Row)
+pub fn follow(rows: &[Row], slots: &mut Vec<u32>, slot: u32, parent: NodeId, name: &Name)
     requires rise { entries.is_sorted spot_cmp (spots_in rows.now slots.old.items) ≡ true }
     requires there { slot < length rows.now }
-    requires listed { IsMoved rows.now slot row.now → slice_get slots.old.items (spot_place rows.now slots.old.items slot) ≡ Some slot }
-    requires left { IsMoved rows.now slot row.now → entries.is_sorted spot_cmp (spots_in rows.now (remove slots.old.items (spot_place rows.now slots.old.items slot))) ≡ true }
-    ensures items { slots.new.items ≡ followed rows.now slots.old.items slot row.now }
+    requires listed { IsMoved rows.now slot (moved parent name.now (row_in rows.now slot)) → slice_get slots.old.items (spot_place rows.now slots.old.items slot) ≡ Some slot }
+    requires left { IsMoved rows.now slot (moved parent name.now (row_in rows.now slot)) → entries.is_sorted spot_cmp (spots_in rows.now (remove slots.old.items (spot_place rows.now slots.old.items slot))) ≡ true }
+    ensures items { slots.new.items ≡ followed rows.now slots.old.items slot (moved parent name.now (row_in rows.now slot)) }
     ensures len { vec_len slots.new ≡ vec_len slots.old }
     ensures capacity { vec_capacity slots.new ≡ vec_capacity slots.old }
 {
     let old = &rows[slot as usize];
-    if old.parent != row.parent || old.name != row.name {
+    if old.parent != parent || old.name != *name {
         let from = place(rows, slots, old.parent, &old.name);
         slots.remove(from);
-        let to = place(rows, slots, row.parent, &row.name);
+        let to = place(rows, slots, parent, name);
         put(slots, to, slot)
     }
 }

@@ -1,9 +1,10 @@
 //! The table and its calls.
-ghost use Rattle.std.specs.Prelude.{true, ◌≡◌, ◌+◌, ◌≤◌, length, IsSomeAnd, IfSome, IfOk, OnOk};
+ghost use Rattle.std.specs.Prelude.{true, ◌≡◌, ◌+◌, ◌≤◌, length, max, None, IsSome, IsSomeAnd, IfSome, IfOk, OnOk};
+ghost use Rattle.std.specs.Vec.{vec_capacity};
 ghost use Rattle.std.specs.Option.{option_copied};
 ghost use Rattle.std.specs.FinMap as map;
-ghost use Rattle.kb_ops.specs.Trees.{look, start, IsWellFormed};
-ghost use Rattle.kb_ops.specs.Rows.{is_dir, FitsNew, FitsReplace, FitsRemove};
+ghost use Rattle.kb_ops.specs.Trees.{look, start, edit, patched, IsFileAt, IsWellFormed};
+ghost use Rattle.kb_ops.specs.Rows.{is_dir, FitsNew, FitsReplace, FitsRemove, FitsRename};
 ghost use Rattle.kb_name.specs.Nodes.{root};
 ghost use Rattle.kb_ops.specs.Find.{child, find_from};
 ghost use Rattle.kb_ops.specs.Plan.{has_child, is_below, file_at};
@@ -11,7 +12,7 @@ ghost use Rattle.kb_tree.specs.Children.{IsChildren};
 
 use super::{slots, spots};
 use kb_edge::Memory;
-use kb_name::{Name, NodeId, Path};
+use kb_name::{Moment, Name, NodeId, Path};
 use kb_ops::{Kind, Row, WalkFault};
 use std::alloc::Global;
 use std::marker::Model;
@@ -167,8 +168,65 @@ impl Table {
     {
         let id_place = slots::place(&self.rows, &self.by_id, row.id);
         let slot = self.by_id[id_place];
-        spots::follow(&self.rows, &mut self.by_spot, slot, &row);
+        spots::follow(&self.rows, &mut self.by_spot, slot, row.parent, &row.name);
         mem::replace(&mut self.rows[slot as usize], row)
+    }
+
+    /// Puts a row at another place, which is free and not below it.
+    pub fn relocate(&mut self, node: NodeId, parent: NodeId, name: Name)
+        requires { FitsRename (map.len self.old.tree) (look self.old.tree) node parent name None }
+        ensures tree { self.new.tree ≡ edit self.old.tree node (λ r. record r { parent = parent; name = name }) }
+        ensures room { self.old.room ≤ self.new.room }
+    {
+        let id_place = slots::place(&self.rows, &self.by_id, node);
+        let slot = self.by_id[id_place];
+        spots::follow(&self.rows, &mut self.by_spot, slot, parent, &name);
+        slots::set_place(&mut self.rows, slot, parent, name)
+    }
+
+    /// Sets the exec mark of a File.
+    pub fn set_exec(&mut self, node: NodeId, on: bool)
+        requires { IsFileAt (look self.old.tree) node }
+        ensures tree { self.new.tree ≡ edit self.old.tree node (λ r. record r { exec = on }) }
+        ensures room { self.old.room ≤ self.new.room }
+    {
+        let id_place = slots::place(&self.rows, &self.by_id, node);
+        let slot = self.by_id[id_place];
+        slots::set_exec(&mut self.rows, slot, on)
+    }
+
+    /// Sets the time of a row.
+    pub fn set_mtime(&mut self, node: NodeId, mtime: Moment)
+        requires { IsSome (look self.old.tree node) }
+        ensures tree { self.new.tree ≡ edit self.old.tree node (λ r. record r { mtime = mtime }) }
+        ensures room { self.old.room ≤ self.new.room }
+    {
+        let id_place = slots::place(&self.rows, &self.by_id, node);
+        let slot = self.by_id[id_place];
+        slots::set_mtime(&mut self.rows, slot, mtime)
+    }
+
+    /// Writes into the bytes of a File, which are so many then, and sets its time. Where they outgrow the room that
+    /// they have, they move to the spare buffer.
+    pub fn write(
+        &mut self,
+        node: NodeId,
+        offset: u32,
+        bytes: &[u8],
+        size: u32,
+        mtime: Moment,
+        spare: Vec<u8>,
+    )
+        requires file { IsFileAt (look self.old.tree) node }
+        requires within { offset + length bytes.now ≤ size }
+        requires small { size ≤ 16777216 }
+        requires room { IfSome (look self.old.tree node) (λ r. size ≤ max (length r.bytes) (vec_capacity spare)) }
+        ensures tree { self.new.tree ≡ edit self.old.tree node (λ r. record r { bytes = patched r.bytes offset bytes.now size; mtime = mtime }) }
+        ensures room { self.old.room ≤ self.new.room }
+    {
+        let id_place = slots::place(&self.rows, &self.by_id, node);
+        let slot = self.by_id[id_place];
+        slots::write(&mut self.rows, slot, offset, bytes, size, mtime, spare)
     }
 
     /// Takes out a row that has no child and isn't the root's.

@@ -1,12 +1,11 @@
-use Rattle.kb_ops.specs.Trees.{new_id}
-use Rattle.kb_apply.proofs.Preparing.{ready, after, in_range}
+use Rattle.std.proofs.Common.{ap}
+use Rattle.kb_ops.specs.declared.rows.Op.{Op}
+use Rattle.kb_ops.specs.Trees.{apply}
+use Rattle.kb_apply.proofs.Preparing.{copy_ready}
 use Rattle.kb_apply.proofs.doing.prepare.Goals as goal
 
-pub parts_of-requires : goal.parts_of-requires
-parts_of-requires c = let op = c.args.op.now in in_range (new_id op) op.moment op.change c.args.table.now.tree c.requires
-
 pub returns-clause-ready : goal.returns-clause-ready
-returns-clause-ready c = ready c.args.op.now c.args.table.now.tree c.parts_of.new.table.room c.parts_of.result c.is_well_formed.ensures c.requires c.parts_of.ensures.prepared c.parts_of.ensures.room
+returns-clause-ready c = copy_ready c.args.op.now c.in_ok-own.own c.in_ok-spare.spare c.args.table.now.tree c.spare_for.new.table.room c.requires c.in_ok-own.ensures c.in_ok-spare.ensures.room c.in_ok-spare.ensures.spare
 
 pub returns-clause-does : goal.returns-clause-does
-returns-clause-does c = after c.args.op.now c.args.table.now.tree c.parts_of.new.table.room c.parts_of.result c.is_well_formed.ensures c.requires c.parts_of.ensures.prepared c.parts_of.ensures.room
+returns-clause-does c = ap (λ (o : Op). apply o c.args.table.now.tree) c.in_ok-own.ensures

@@ -26,7 +26,7 @@ returns-in-Ok-read_tree g c seed names chain has member ring within =
     let p = there g.S.Sealer.sealed g.S.Sealer.signed g.H.BlockHash.hashed seed names f chain c.args.known has c.requires within lent c.in-Ok.ensures.lent.1 item at in
     let written = written_there g.S.Sealer.sealed g.S.Sealer.signed g.H.BlockHash.hashed seed names f chain c.args.known has c.requires within lent c.in-Ok.ensures.lent.1 item at in
     let keys = ring_known g.S.Sealer.sealed g.S.Sealer.signed g.H.BlockHash.hashed seed names f chain c.args.known has c.requires within lent c.in-Ok.ensures.lent.1 item at c.args.ring.now ring in
-    let tree = c.in-Ok-read_tree.ensures seed names p.older_bytes p.older p.plain (subst (λ b. IsWritten g.S.Sealer.sealed g.S.Sealer.signed g.H.BlockHash.hashed seed names (get f.blocks) p.older_bytes p.older b p.plain) (sym c.deref.ensures.value) written) keys in
+    let tree = c.in-Ok-read_tree.ensures.read seed names p.older_bytes p.older p.plain (subst (λ b. IsWritten g.S.Sealer.sealed g.S.Sealer.signed g.H.BlockHash.hashed seed names (get f.blocks) p.older_bytes p.older b p.plain) (sym c.deref.ensures.value) written) keys in
     tree.0 ∙ tree_there g.S.Sealer.sealed g.S.Sealer.signed g.H.BlockHash.hashed seed names f chain c.args.known has c.requires within lent c.in-Ok.ensures.lent.1 item at
 
 pub returns-in-Err-read_tree : goal.returns-in-Err-read_tree
@@ -38,4 +38,4 @@ returns-in-Err-read_tree g c seed names chain has member ring within =
     let p = there g.S.Sealer.sealed g.S.Sealer.signed g.H.BlockHash.hashed seed names f chain c.args.known has c.requires within lent c.in-Ok.ensures.lent.1 item at in
     let written = written_there g.S.Sealer.sealed g.S.Sealer.signed g.H.BlockHash.hashed seed names f chain c.args.known has c.requires within lent c.in-Ok.ensures.lent.1 item at in
     let keys = ring_known g.S.Sealer.sealed g.S.Sealer.signed g.H.BlockHash.hashed seed names f chain c.args.known has c.requires within lent c.in-Ok.ensures.lent.1 item at c.args.ring.now ring in
-    refused c.in-Err-read_tree.fault _ _ (c.in-Err-read_tree.ensures seed names p.older_bytes p.older p.plain (subst (λ b. IsWritten g.S.Sealer.sealed g.S.Sealer.signed g.H.BlockHash.hashed seed names (get f.blocks) p.older_bytes p.older b p.plain) (sym c.deref.ensures.value) written) keys)
+    refused c.in-Err-read_tree.fault _ _ (c.in-Err-read_tree.ensures.read seed names p.older_bytes p.older p.plain (subst (λ b. IsWritten g.S.Sealer.sealed g.S.Sealer.signed g.H.BlockHash.hashed seed names (get f.blocks) p.older_bytes p.older b p.plain) (sym c.deref.ensures.value) written) keys)

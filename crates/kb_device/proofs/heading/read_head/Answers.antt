@@ -51,7 +51,7 @@ returns-in-Err-read_tree-clause-stands g c seed names chain known has secret_is 
     let p_is = there_is g.S.Sealer.sealed g.S.Sealer.signed g.H.BlockHash.hashed seed names f chain known c.args.d c.args.secret.now c.args.generation has secret_is member within lent is i last item at in
     let written = subst (λ b. IsWritten g.S.Sealer.sealed g.S.Sealer.signed g.H.BlockHash.hashed seed names (get f.blocks) p.older_bytes p.older b p.plain) (p_is ∙ sym c.deref.ensures.value) p.written in
     let keys = ring_there g.S.Sealer.sealed g.S.Sealer.signed g.H.BlockHash.hashed seed names f chain known c.args.d c.args.secret.now c.args.generation has secret_is member within lent is i last item at c.fill.new.ring ring in
-    refused c.in-Err-read_tree.fault _ _ (c.in-Err-read_tree.ensures seed names p.older_bytes p.older p.plain written keys)
+    refused c.in-Err-read_tree.fault _ _ (c.in-Err-read_tree.ensures.read seed names p.older_bytes p.older p.plain written keys)
 
 pub returns-clause-stands : goal.returns-clause-stands
 returns-clause-stands g c seed names chain known has secret_is member gen_is stands within is =
@@ -77,7 +77,7 @@ returns-clause-stands g c seed names chain known has secret_is member gen_is sta
     let written = subst (λ b. IsWritten g.S.Sealer.sealed g.S.Sealer.signed g.H.BlockHash.hashed seed names (get f.blocks) p.older_bytes p.older b p.plain) (p_is ∙ sym c.deref.ensures.value) p.written in
     let keys = ring_there g.S.Sealer.sealed g.S.Sealer.signed g.H.BlockHash.hashed seed names f chain known c.args.d c.args.secret.now c.args.generation has secret_is member within lent is i last item at c.fill.new.ring ring in
     let gen = generation_there g.S.Sealer.sealed g.S.Sealer.signed g.H.BlockHash.hashed seed names f chain known c.args.d c.args.secret.now c.args.generation has secret_is member within lent is i last item at in
-    let tree = c.in-Ok-read_tree.ensures seed names p.older_bytes p.older p.plain written keys in
+    let tree = c.in-Ok-read_tree.ensures.read seed names p.older_bytes p.older p.plain written keys in
     let hash_is : c.hash_of-hash.result ≡ sha256 item = c.hash_of-hash.ensures ∙ ap sha256 c.deref-2.ensures.value in
     let all = head_stands g.S.Sealer.sealed g.S.Sealer.signed g.H.BlockHash.hashed seed names f chain known c.args.d c.args.secret.now c.args.generation has secret_is member within lent is i last item at c.length-number.result c.in-Ok-read_tree.made.0.tree c.in-Ok-read_tree.made.1 c.in-Ok-read_tree.made.2
     c.fill.new.ring c.length-number.ensures ring tree.0 tree.1 in (

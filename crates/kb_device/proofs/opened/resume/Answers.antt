@@ -32,7 +32,7 @@ returns-clause-running g c =
     let head = c.args.start.head in
     let r = read_of head in
     let after : c.in-Ok-catch_up.journal.state ≡ caught_by (taken_by s c.args.start.taking) r = c.in-Ok-catch_up.ensures.state ∙ ap (λ x. caught_by x r) c.in-Ok.ensures.state in
-    subst (λ (j : State). (let t : Inside = record (started s c.args.start.taking r head.shown.tree head.role) { journal = j } in IsRunning t)) (sym after) (begins_running s c.args.start.taking r head.shown.tree c.requires.can head.role c.requires.proper)
+    subst (λ (j : State). (let t : Inside = record (started s c.args.start.taking r head.shown.tree head.role) { journal = j } in IsRunning t)) (sym after) (begins_running s c.args.start.taking r head.shown.tree c.requires.can head.role c.requires.proper c.requires.pointed)
 
 pub returns-clause-writes : goal.returns-clause-writes
 returns-clause-writes g c =

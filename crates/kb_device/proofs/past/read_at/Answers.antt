@@ -70,7 +70,7 @@ returns-in-Err-read_tree-clause-stands g c seed names chain has secret_is member
     (subst (λ old. HasKeysOf seed c.args.d c.in-Ok.revision.generation (places_behind 0 has.back) old c.fill.new.ring) c.new-ring.ensures filled) in
     let ring = ring_there g.S.Sealer.sealed g.S.Sealer.signed g.H.BlockHash.hashed seed names f chain c.args.d c.args.secret.now has secret_is member i p c.in-Ok.revision read_is c.fill.new.ring ring0 in
     let written = subst (λ b. IsWritten g.S.Sealer.sealed g.S.Sealer.signed g.H.BlockHash.hashed seed names (get f.blocks) p.older_bytes p.older b p.plain) (placed.1 ∙ sym c.deref-2.ensures.value) p.written in
-    refused c.in-Err-read_tree.fault _ _ (c.in-Err-read_tree.ensures seed names p.older_bytes p.older p.plain written ring)
+    refused c.in-Err-read_tree.fault _ _ (c.in-Err-read_tree.ensures.read seed names p.older_bytes p.older p.plain written ring)
 
 pub returns-then-is_readable-clause-stands : goal.returns-then-is_readable-clause-stands
 returns-then-is_readable-clause-stands g c seed names chain has secret_is member is =
@@ -93,7 +93,7 @@ returns-then-is_readable-clause-stands g c seed names chain has secret_is member
     (subst (λ old. HasKeysOf seed c.args.d c.in-Ok.revision.generation (places_behind 0 has.back) old c.fill.new.ring) c.new-ring.ensures filled) in
     let ring = ring_there g.S.Sealer.sealed g.S.Sealer.signed g.H.BlockHash.hashed seed names f chain c.args.d c.args.secret.now has secret_is member i p c.in-Ok.revision read_is c.fill.new.ring ring0 in
     let written = subst (λ b. IsWritten g.S.Sealer.sealed g.S.Sealer.signed g.H.BlockHash.hashed seed names (get f.blocks) p.older_bytes p.older b p.plain) (placed.1 ∙ sym c.deref-2.ensures.value) p.written in
-    let tree = c.in-Ok-read_tree.ensures seed names p.older_bytes p.older p.plain written ring in
+    let tree = c.in-Ok-read_tree.ensures.read seed names p.older_bytes p.older p.plain written ring in
     let below : i < length has.back = subst (λ n. i < n) (lent_length g.S.Sealer.sealed g.S.Sealer.signed g.H.BlockHash.hashed seed names f has.back has.stands lent is) lt in
     let hash_is : c.hash_of-hash.result ≡ sha256 c.index-lent-number.result.items = c.hash_of-hash.ensures ∙ ap sha256 c.deref-3.ensures.value in (
       subst (λ h. (let r : Read = record { number = c.args.number; hash = h; tree = c.in-Ok-read_tree.made.0.tree; kept = c.in-Ok-read_tree.made.1; cache = c.in-Ok-read_tree.made.2; ring = c.fill.new.ring; generation = c.in-Ok.revision.generation } in ReadStands g.S.Sealer.sealed g.H.BlockHash.hashed seed f chain r)) (sym hash_is)
@@ -122,7 +122,7 @@ returns-clause-stands g c seed names chain has secret_is member is =
     (subst (λ old. HasKeysOf seed c.args.d c.in-Ok.revision.generation (places_behind 0 has.back) old c.fill.new.ring) c.new-ring.ensures filled) in
     let ring = ring_there g.S.Sealer.sealed g.S.Sealer.signed g.H.BlockHash.hashed seed names f chain c.args.d c.args.secret.now has secret_is member i p c.in-Ok.revision read_is c.fill.new.ring ring0 in
     let written = subst (λ b. IsWritten g.S.Sealer.sealed g.S.Sealer.signed g.H.BlockHash.hashed seed names (get f.blocks) p.older_bytes p.older b p.plain) (placed.1 ∙ sym c.deref-2.ensures.value) p.written in
-    let tree = c.in-Ok-read_tree.ensures seed names p.older_bytes p.older p.plain written ring in
+    let tree = c.in-Ok-read_tree.ensures.read seed names p.older_bytes p.older p.plain written ring in
     let below : i < length has.back = subst (λ n. i < n) (lent_length g.S.Sealer.sealed g.S.Sealer.signed g.H.BlockHash.hashed seed names f has.back has.stands lent is) lt in
     let hash_is : c.hash_of-hash.result ≡ sha256 c.index-lent-number.result.items = c.hash_of-hash.ensures ∙ ap sha256 c.deref-3.ensures.value in
     let yes = subst (λ h. (let r : Read = record { number = c.args.number; hash = h; tree = c.in-Ok-read_tree.made.0.tree; kept = c.in-Ok-read_tree.made.1; cache = c.in-Ok-read_tree.made.2; ring = c.fill.new.ring; generation = c.in-Ok.revision.generation } in is_readable 0 r ≡ true)) (sym hash_is)

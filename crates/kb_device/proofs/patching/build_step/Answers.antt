@@ -16,11 +16,11 @@ returns-in-Sync-clause-holds g c = IfOk-weaker c.build_written.result _ _
     c.in-Some-cache.is c.in-Some.is c.in-Sync.is c.as_slice.ensures h)
     c.build_written.ensures.holds
 
-pub returns-in_default-change : goal.returns-in_default-change
-returns-in_default-change g c = record {
-  holds = subst (λ o. IfOk c.build_rest-in_default-change.result (λ built. BuildsStep g.S.Sealer.sealed g.H.BlockHash.hashed c.args.cache.now (key_at c.args.keys.now) c.args.table.now.tree c.args.left.now c.args.op.now.change o built.root built.blocks built.pointers)) (sym c.in-Some.is) c.build_rest-in_default-change.ensures.holds;
-  few = IfOk-weaker c.build_rest-in_default-change.result _ _
+pub returns-in_default-change-clause-holds : goal.returns-in_default-change-clause-holds
+returns-in_default-change-clause-holds g c =
+    subst (λ o. IfOk c.build_rest-in_default-change.result (λ built. BuildsStep g.S.Sealer.sealed g.H.BlockHash.hashed c.args.cache.now (key_at c.args.keys.now) c.args.table.now.tree c.args.left.now c.args.op.now.change o built.root built.blocks built.pointers)) (sym c.in-Some.is) c.build_rest-in_default-change.ensures.holds
+
+pub returns-in_default-change-clause-few : goal.returns-in_default-change-clause-few
+returns-in_default-change-clause-few g c = IfOk-weaker c.build_rest-in_default-change.result _ _
       (λ built h. makes_rest g.S.Sealer.sealed g.H.BlockHash.hashed c.args.cache.now (key_at c.args.keys.now) c.args.generation c.args.table.now.tree c.args.left.now c.args.op.now.change c.args.old built.blocks built.pointers c.in_default-change.not-Sync h)
-      c.build_rest-in_default-change.ensures.made;
-  left = λ q p at. at;
-}
+      c.build_rest-in_default-change.ensures.made

@@ -3,8 +3,8 @@ use Rattle.kb_device.specs.Patching.{IsOldAt}
 use Rattle.kb_device.specs.declared.patching.OldFile.{OldFile}
 use Rattle.kb_device.proofs.patching.old_at.Goals as goal
 
-pub returns : goal.returns
-returns c old is =
+pub returns-clause-is : goal.returns-clause-is
+returns-clause-is c old is =
     let this : OldFile = record { ptr = c.in-Some.ptr; size = length c.as_slice.result.now } in
     subst (IsOldAt c.args.table.now.tree c.args.pointers.now c.args.node) (let e : Some this ≡ Some old = is in let same : this ≡ old = cc in same) (record {
       pointed = sym c.in-Some.ensures;

@@ -8,8 +8,8 @@ use Rattle.kb_folder.specs.Held.{held}
 use Rattle.kb_device.specs.Caches.{Caches}
 use Rattle.kb_device.proofs.reading.load_tree.Goals as goal
 
-pub returns-in-Ok-cache_of : goal.returns-in-Ok-cache_of
-returns-in-Ok-cache_of g c t holds =
+pub returns-in-Ok-cache_of-clause-read : goal.returns-in-Ok-cache_of-clause-read
+returns-in-Ok-cache_of-clause-read g c t holds =
     let h = c.in-Ok.ensures in
     let reads = subst (λ s. HoldsTree (Opens g.S.Sealer.sealed g.H.BlockHash.hashed (get s) (key_at c.args.ring.now)) c.args.private.now.root c.args.private.now.mtime c.in-Ok.made.0.tree) c.store-store.ensures h.reads in
     let cached = subst (λ s. Caches g.S.Sealer.sealed g.H.BlockHash.hashed (get s) (key_at c.args.ring.now) c.in-Ok.made.0.tree c.in-Ok.made.1 c.in-Ok-cache_of.cache) c.store-store.ensures c.in-Ok-cache_of.ensures in

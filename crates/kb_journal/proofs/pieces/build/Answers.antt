@@ -15,13 +15,13 @@ loop-text-init c =
 pub add-requires-clause-room : goal.add-requires-clause-room
 add-requires-clause-room c =
     let i = c.loop-text.invariant in
-    let at = texts_at c.args.held.now.texts.items c.loop-text.text-index c.text-item.result (omega arith) (c.text-item.is ∙ ap (λ (l : List (Vec ℕ Global)). get_or l c.loop-text.text-index c.text-item.result) c.deref-text-items.ensures.value) in
+    let at = texts_at c.args.held.now.texts.items c.loop-text.text-index c.text-item.result (omega (arith, ap length c.as_slice-text-items.ensures)) (c.text-item.is ∙ ap (λ (l : List (Vec ℕ Global)). get_or l c.loop-text.text-index c.text-item.result) c.as_slice-text-items.ensures) in
     omega (arith, i.fits, i.room, at.0, c.requires.room, ap length c.deref.ensures.value)
 
 pub add-requires-clause-small : goal.add-requires-clause-small
 add-requires-clause-small c =
     let i = c.loop-text.invariant in
-    let at = texts_at c.args.held.now.texts.items c.loop-text.text-index c.text-item.result (omega arith) (c.text-item.is ∙ ap (λ (l : List (Vec ℕ Global)). get_or l c.loop-text.text-index c.text-item.result) c.deref-text-items.ensures.value) in
+    let at = texts_at c.args.held.now.texts.items c.loop-text.text-index c.text-item.result (omega (arith, ap length c.as_slice-text-items.ensures)) (c.text-item.is ∙ ap (λ (l : List (Vec ℕ Global)). get_or l c.loop-text.text-index c.text-item.result) c.as_slice-text-items.ensures) in
     omega (arith, i.fits, at.0, c.requires.small, ap length c.deref.ensures.value)
 
 pub loop-text-preserved : goal.loop-text-preserved
@@ -30,7 +30,7 @@ loop-text-preserved c =
     let a = c.add.ensures in
     let h = c.args.held.now in
     let head = entry_text (Head h.known h.hash h.base h.mark) in
-    let at = texts_at h.texts.items c.loop-text.text-index c.text-item.result (omega arith) (c.text-item.is ∙ ap (λ (l : List (Vec ℕ Global)). get_or l c.loop-text.text-index c.text-item.result) c.deref-text-items.ensures.value) in
+    let at = texts_at h.texts.items c.loop-text.text-index c.text-item.result (omega (arith, ap length c.as_slice-text-items.ensures)) (c.text-item.is ∙ ap (λ (l : List (Vec ℕ Global)). get_or l c.loop-text.text-index c.text-item.result) c.as_slice-text-items.ensures) in
     record {
       are = a.are;
       so_far = a.pieces ∙ ap (λ (l : List (List ℕ)). l ++ c.deref.result.now ∷ []) i.so_far ∙ ap (λ (t : List ℕ). head ∷ (lists_of (take c.loop-text.text-index h.texts.items) ++ t ∷ [])) c.deref.ensures.value ∙ ap (λ (l : List (List ℕ)). head ∷ l) (sym at.1);

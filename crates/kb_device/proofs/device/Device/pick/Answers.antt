@@ -4,6 +4,7 @@ use Rattle.kb_device.specs.Picking.{PickDoes}
 use Rattle.kb_device.proofs.Options.{none_of, none_by, no_rest}
 use Rattle.kb_device.proofs.Views.{inside_of, outside_of, disk_of, same_view, kept_view}
 use Rattle.kb_device.proofs.Answering.{closed_pick, pick_answers}
+use Rattle.kb_device.proofs.Few.{pick_is_few}
 use Rattle.kb_device.proofs.Aloft.{picks_wait, err_by}
 use Rattle.kb_device.proofs.device.Device.pick.Goals as goal
 
@@ -46,3 +47,8 @@ returns-clause-waits g c = err_by c.pick.result (λ fault is seed v view. (
       picks_wait g.S.Sealer.sealed g.H.BlockHash.hashed seed v (record v { inside = Some (inside t) }) (inside s) (inside t) (inside_of device v s view c.in-Some.is) refl g.S.Sealer.signed device.secret (c.requires.runs s c.in-Some.is).running (Err fault)
           (subst (λ r. PickDoes g.S.Sealer.sealed g.S.Sealer.signed g.H.BlockHash.hashed device.secret (inside s) (inside t) r) is h.does),
     )))
+
+pub returns-clause-few : goal.returns-clause-few
+returns-clause-few g c seed names v view =
+    let s = c.in-Some.session in
+    pick_is_few g.S.Sealer.sealed g.S.Sealer.signed g.H.BlockHash.hashed c.few_law.ensures seed names v c.args.self.now.secret (inside s) (inside c.pick.new.self) (inside_of c.args.self.now v s view c.in-Some.is) (c.requires.runs s c.in-Some.is).running c.pick.result c.pick.ensures.does

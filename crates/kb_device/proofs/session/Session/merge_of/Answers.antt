@@ -8,8 +8,8 @@ use Rattle.kb_device.specs.Views.{inside, plan_of}
 use Rattle.kb_device.proofs.Settlings.{both, asked}
 use Rattle.kb_device.proofs.session.Session.merge_of.Goals as goal
 
-pub returns : goal.returns
-returns g c =
+pub returns-clause-asked : goal.returns-clause-asked
+returns-clause-asked g c =
     let state = c.args.self.now.journal.state in
     let last_is = c.last-last.ensures in
     let count_is = c.queue_len-count.ensures in

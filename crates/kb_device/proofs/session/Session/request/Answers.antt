@@ -19,4 +19,6 @@ returns-clause-made g c =
       keyed = sym c.key.ensures ∙ ap option_copied c.in-Some-key.is;
       made = subst (λ h. IsStepRequest g.S.Sealer.sealed g.S.Sealer.signed g.H.BlockHash.hashed c.args.secret.now c.in-Some-key.key.now s.generation c.in-Some.number h c.args.op s.base.tree s.pointers s.cache (key_at s.ring) s.written c.in-Ok.made.request) c.known_hash-head.ensures c.in-Ok.ensures.step;
       pointers = c.in-Ok.ensures.pointers;
+      all = c.in-Ok.ensures.all;
+      few = c.in-Ok.ensures.few;
     }

@@ -17,5 +17,5 @@ returns-in-Err-clause-stops g c = record {
 pub returns-clause-running : goal.returns-clause-running
 returns-clause-running g c =
     let journal = c.in-Ok.ensures.state ∙ ap (λ n. done c.args.self.now.journal.state (entry.Merged (c.args.goal.number + 1) c.args.hash n)) c.queue_len-count.ensures in
-    running_merged (inside c.args.self.now) _ (plan_of c.args.goal) c.args.table.tree c.args.pointers c.args.hash c.args.role c.requires.can
+    running_merged (inside c.args.self.now) _ (plan_of c.args.goal) c.args.table.tree c.args.pointers c.args.hash c.args.role c.requires.can c.requires.pointed
     (λ i. let s : Inside = record { journal = journal i; base = c.args.table.tree; ahead = 0; shown = c.requires.same i; kept = c.args.pointers; cache = c.args.goal.cache; written = None; ring = c.args.goal.ring; generation = c.args.goal.generation; role = c.args.role; aloft = None; plan = None } in s)
