@@ -106,7 +106,7 @@ pub done_beside : (op : Op) (ahead ahead' : ℕ) (base base' : Tree) (kept left 
 done_beside op ahead ahead' base base' kept left written written' d all was = by op.change d.does d.beside d.finds was where
   by : (change : Change)
       → ((ahead ≡ 1) × (base' ≡ base) × ((q : NodeId) (p : Ptr) → get left q ≡ Some p → get kept q ≡ Some p) × (written' ≡ written))
-        ⊎ ((ahead ≡ 0) × FitsChange (record { device = op.device; seq = op.seq; part = 0 }) op.moment change base × (base' ≡ apply_change (record { device = op.device; seq = op.seq; part = 0 }) op.moment change base) × ((q : NodeId) (p : Ptr) → get left q ≡ Some p → left_of base change q (get kept q) ≡ Some p) × ((old : OldFile) → written' ≡ Some old → WasAt base kept change old))
+      ⊎ ((ahead ≡ 0) × FitsChange (record { device = op.device; seq = op.seq; part = 0 }) op.moment change base × (base' ≡ apply_change (record { device = op.device; seq = op.seq; part = 0 }) op.moment change base) × ((q : NodeId) (p : Ptr) → get left q ≡ Some p → left_of base change q (get kept q) ≡ Some p) × ((old : OldFile) → written' ≡ Some old → WasAt base kept change old))
       → KeepsBeside base' change kept left → (ahead ≡ 0 → FindsOld base kept change written') → (ahead ≡ 1 → PointsBeside base change kept written) → PointsBeside base' change left written'
   by (Create parent name kind bytes) does beside finds before = tt
   by (Remove node) does beside finds before = tt
@@ -116,13 +116,15 @@ done_beside op ahead ahead' base base' kept left written written' d all was = by
   by (Sync node offset bytes size) (inl (one, same, stay, still)) beside finds before =
       let old = before one in (
         beside_all base' node kept left beside (subst (λ (t : Tree). AllButAbove t node kept) (sym same) old.0),
-        subst (λ (o : Option OldFile). IsSome o) (sym still) old.1)
+        subst (λ (o : Option OldFile). IsSome o) (sym still) old.1,
+      )
   by (Sync node offset bytes size) (inr (none, fits, does, leaves, at)) beside finds before =
       let f : Row → Row = λ r. record r { bytes = patched r.bytes offset bytes size; mtime = op.moment } in
       let file = file_at base node fits.0 in
       let pointed : is_some (get kept node) ≡ true = all none node ∙ some_at (look base node) file.0 file.1 in (
         beside_all base' node kept left beside (λ q r there empty. absurd (no_pointer (get kept q) (look base q) (all none q) empty (were_there base node f file.0 file.1 q r (subst (λ (t : Tree). look t q ≡ Some r) does there)))),
-        finds none (some_at (look base node) file.0 file.1) pointed)
+        finds none (some_at (look base node) file.0 file.1) pointed,
+      )
 
 -- ---- the size of the old file
 

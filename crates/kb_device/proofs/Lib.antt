@@ -73,3 +73,5 @@ pub mod Requested
 pub mod Beside
 pub mod Counting
 pub mod Few
+pub mod Flying
+pub mod Showing

@@ -163,11 +163,12 @@ module _ (sealed signed : List ℕ → List ℕ → List ℕ) (hashed : List ℕ
             (done_held vault g.op s.ahead t.ahead s.base t.base s.kept t.kept s.written t.written g.done h.held));
         written = λ op rest old queue' one is.
             let first : g.op ≡ op = (let e : g.op ∷ g.rest ≡ op ∷ rest = sym queue ∙ queue' in cc) in (
-            subst (λ n. IsOldOf (Opens sealed hashed (known_in t.cache (get f.blocks)) (keys_to seed n)) t.base op.change old) (sym generation)
-            (old_within sealed hashed (known_in s.cache (get f.blocks)) (known_in t.cache (get f.blocks)) (keys_to seed s.generation) t.base op.change old more
-            (subst (λ (o : Op). IsOldOf vault t.base o.change old) first
-            (done_written vault g.op s.ahead t.ahead s.base t.base s.kept t.kept s.written t.written g.done h.held (λ old one is. (h.written g.op g.rest old g.queue one is).0) old is))),
-            subst (λ (o : Op). HasSize p.base o.change old) first (sized_of f c p s t t.kept h g g.done old is));
+              subst (λ n. IsOldOf (Opens sealed hashed (known_in t.cache (get f.blocks)) (keys_to seed n)) t.base op.change old) (sym generation)
+                  (old_within sealed hashed (known_in s.cache (get f.blocks)) (known_in t.cache (get f.blocks)) (keys_to seed s.generation) t.base op.change old more
+                  (subst (λ (o : Op). IsOldOf vault t.base o.change old) first
+                  (done_written vault g.op s.ahead t.ahead s.base t.base s.kept t.kept s.written t.written g.done h.held (λ old one is. (h.written g.op g.rest old g.queue one is).0) old is))),
+              subst (λ (o : Op). HasSize p.base o.change old) first (sized_of f c p s t t.kept h g g.done old is),
+            );
         ring = λ n. ap (λ k. key_at k n) ring ∙ h.ring n ∙ ap (λ k. keys_to seed k n) (sym generation);
         flight = flies ∙ ap (option_map (λ (a : Aloft). a.flight)) (sym (ap (λ (x : Inside). x.aloft) same));
         plan = h.plan ∙ ap (option_map (λ (x : Plan). x.number)) (sym (ap (λ (x : Inside). x.plan) same));

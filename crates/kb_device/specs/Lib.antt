@@ -45,3 +45,4 @@ pub mod Caches
 pub mod Patching
 pub mod Counting
 pub mod Few
+pub mod Flying

@@ -2,7 +2,9 @@
 use Rattle.std.specs.Prelude.{◌≡◌, Option, None, Some, Result, Ok, Err}
 use Rattle.std.specs.Option.{option_map}
 use Rattle.kb_ops.specs.declared.requests.Show.{Show}
+use Rattle.kb_ops.specs.declared.requests.Show.TheVariants as asks
 use Rattle.kb_ops.specs.declared.requests.Shown.{Shown}
+use Rattle.kb_ops.specs.declared.requests.Shown.TheVariants as shown
 use Rattle.kb_apply.specs.declared.shows.ShowFault.{ShowFault}
 use Rattle.kb_device.specs.Answers as says
 use Rattle.kb_device.specs.Journals.{plain}
@@ -42,3 +44,11 @@ IsShown shown (Ok x) = shown ≡ Ok x
 IsShown shown (Err fault.Closed) = ⊥
 IsShown shown (Err (fault.ByShow why)) = shown ≡ Err why
 IsShown shown (Err fault.Memory) = Unit {0}
+
+-- what is shown is of the kind that was asked for
+abbrev pub IsShownFor : Show → Shown → Type 0
+IsShownFor (asks.Cat path range) (shown.Cat bytes) = Unit {0}
+IsShownFor (asks.Ls path) (shown.Ls rows) = Unit {0}
+IsShownFor asks.Tree (shown.Tree at queue rows) = Unit {0}
+IsShownFor (asks.Stat path) (shown.Stat row) = Unit {0}
+IsShownFor show x = ⊥

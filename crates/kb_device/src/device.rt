@@ -47,6 +47,7 @@ impl<D: Disk, S: Sealer, H: BlockHash> Device<D, S, H> {
     ghost use Rattle.kb_device.specs.Devices.{Runs, IsView, GoesOn, HasFailed};
     ghost use Rattle.kb_device.specs.Answering.{PickAnswers};
     ghost use Rattle.kb_device.specs.Few.{PicksFew};
+    ghost use Rattle.kb_device.specs.Flying.{PickFlies, NoteFlies};
     ghost use Rattle.kb_device.specs.Stands.{Member};
     ghost use Rattle.kb_device.specs.Noting.{NoteGoes};
     ghost use Rattle.kb_device.specs.Pulling.{PullAnswers, UnlessStopped};
@@ -61,6 +62,7 @@ impl<D: Disk, S: Sealer, H: BlockHash> Device<D, S, H> {
         requires runs { ForSome self.old.session (Runs self.old.number) }
         ensures runs { ForSome self.new.session (Runs self.new.number) }
         ensures goes { (seed : List ℕ) (names : Names) → GoesOn self.old self.new (λ v w. PickAnswers S.sealed S.signed H.hashed seed names v w result) }
+        ensures flies { GoesOn self.old self.new (λ v w. PickFlies v w result) }
         ensures few { (seed : List ℕ) (names : Names) (v : Member) → IsView self.old v → IfOk result (PicksFew S.sealed S.signed H.hashed seed names v) }
         ensures waits { OnErr result ((seed : List ℕ) → GoesOn self.old self.new (λ v w. WaitsOn S.sealed H.hashed seed v w)) }
     {
@@ -78,6 +80,7 @@ impl<D: Disk, S: Sealer, H: BlockHash> Device<D, S, H> {
         requires runs { ForSome self.old.session (Runs self.old.number) }
         ensures runs { ForSome self.new.session (Runs self.new.number) }
         ensures goes { (seed : List ℕ) (names : Names) → GoesOn self.old self.new (λ v w. NoteGoes S.sealed S.signed H.hashed seed names v.number v w answer.now result) }
+        ensures flies { GoesOn self.old self.new (λ v w. NoteFlies v w result) }
         ensures rose { result ≡ Err stop.Stopped → HasFailed self.old self.new }
     {
         let Some(session) = &mut self.session else {
@@ -112,7 +115,7 @@ impl<D: Disk, S: Sealer, H: BlockHash> Device<D, S, H> {
 }
 
 impl<D: Disk, S: Sealer, H: BlockHash> Device<D, S, H> {
-    ghost use Rattle.std.specs.Prelude.{ℕ, List, Err};
+    ghost use Rattle.std.specs.Prelude.{ℕ, List, Err, IfOk};
     ghost use Rattle.kb_folder.specs.Chains.{Names};
     ghost use Rattle.kb_device.specs.Devices.{Runs, GoesOn, HasFailed};
     ghost use Rattle.kb_folder.specs.Puts.{Held};
@@ -121,8 +124,9 @@ impl<D: Disk, S: Sealer, H: BlockHash> Device<D, S, H> {
     ghost use Rattle.kb_device.specs.Devices.{IsView, disk_in};
     ghost use Rattle.kb_device.specs.Stands.{Member, DeviceStands};
     ghost use Rattle.kb_device.specs.Views.{platter};
-    ghost use Rattle.kb_device.specs.Telling.{Tells, TellAnswers, LookAnswers};
+    ghost use Rattle.kb_device.specs.Telling.{Tells, TellAnswers, LookAnswers, IsShownFor};
     ghost use Rattle.kb_device.specs.Serving.{CallAnswers, WaitsOn, IsNew};
+    ghost use Rattle.kb_device.specs.Flying.{CallFlies};
     ghost use Rattle.kb_device.specs.declared.called.CallFault.TheVariants as refusal;
     ghost use Rattle.kb_folder.specs.Held.{held};
     ghost use Rattle.kb_device.specs.Opened.{OpenDoes, OpenAnswers};
@@ -181,7 +185,8 @@ impl<D: Disk, S: Sealer, H: BlockHash> Device<D, S, H> {
 
     /// What the device shows of its tree.
     pub fn show(&self, alloc: Global, show: &Show) -> Result<Shown, LookFault>
-        ensures { (seed : List ℕ) (names : Names) (v : Member) (f : Held) (c : Chain) (p : Part) → IsView self.now v → DeviceStands S.sealed S.signed H.hashed seed names v.number f c v p → LookAnswers p show.now result }
+        ensures goes { (seed : List ℕ) (names : Names) (v : Member) (f : Held) (c : Chain) (p : Part) → IsView self.now v → DeviceStands S.sealed S.signed H.hashed seed names v.number f c v p → LookAnswers p show.now result }
+        ensures kind { IfOk result (IsShownFor show.now) }
     {
         let Some(session) = &self.session else {
             return Err(LookFault::Closed);
@@ -211,6 +216,7 @@ impl<D: Disk, S: Sealer, H: BlockHash> Device<D, S, H> {
         requires runs { ForSome self.old.session (Runs self.old.number) }
         ensures runs { ForSome self.new.session (Runs self.new.number) }
         ensures goes { (seed : List ℕ) (names : Names) → GoesOn self.old self.new (λ v w. CallAnswers S.sealed S.signed H.hashed seed names v w request.now moment result × WaitsOn S.sealed H.hashed seed v w) }
+        ensures flies { GoesOn self.old self.new (λ v w. CallFlies v w result) }
         ensures rose { result ≡ Err refusal.Stopped → HasFailed self.old self.new }
     {
         let Some(session) = &mut self.session else {

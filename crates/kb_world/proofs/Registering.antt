@@ -54,7 +54,7 @@ module _ (sealed signed : List ℕ → List ℕ → List ℕ) (hashed : List ℕ
   -- ---- a device's session
 
   remembers_one : (c : Chain) (known : ℕ) (hash : List ℕ) (generation : ℕ) (k : Kept) (cache : Cache) → Remembers sealed hashed seed f c known hash generation k cache → Remembers sealed hashed seed with_one c known hash generation k cache
-  remembers_one c known hash generation k cache h = record { within = h.within; hash_is = h.hash_is; generation_is = h.generation_is; held = h.held; cached = h.cached }
+  remembers_one c known hash generation k cache h = record { within = h.within; hash_is = h.hash_is; generation_is = h.generation_is; held = h.held }
 
   plan_one : (c : Chain) (known : ℕ) (x : Plan) → PlanStands sealed hashed seed f c known x → PlanStands sealed hashed seed with_one c known x
   plan_one c known x h = record { merged = h.merged; remembers = remembers_one c x.number x.hash x.generation x.kept x.cache h.remembers; ring = h.ring; base = h.base; ops = h.ops; plain = h.plain }

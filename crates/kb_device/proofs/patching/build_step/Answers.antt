@@ -22,5 +22,5 @@ returns-in_default-change-clause-holds g c =
 
 pub returns-in_default-change-clause-few : goal.returns-in_default-change-clause-few
 returns-in_default-change-clause-few g c = IfOk-weaker c.build_rest-in_default-change.result _ _
-      (λ built h. makes_rest g.S.Sealer.sealed g.H.BlockHash.hashed c.args.cache.now (key_at c.args.keys.now) c.args.generation c.args.table.now.tree c.args.left.now c.args.op.now.change c.args.old built.blocks built.pointers c.in_default-change.not-Sync h)
-      c.build_rest-in_default-change.ensures.made
+    (λ built h. makes_rest g.S.Sealer.sealed g.H.BlockHash.hashed c.args.cache.now (key_at c.args.keys.now) c.args.generation c.args.table.now.tree c.args.left.now c.args.op.now.change c.args.old built.blocks built.pointers c.in_default-change.not-Sync h)
+    c.build_rest-in_default-change.ensures.made

@@ -3,6 +3,7 @@ use Rattle.kb_device.specs.Views.{inside, platter}
 use Rattle.kb_device.proofs.Options.{none_of, none_by, no_rest}
 use Rattle.kb_device.proofs.Views.{inside_of, outside_of, disk_of, same_view, next_view, rest_view}
 use Rattle.kb_device.proofs.Servings.{closed_call, calls_on, calls_stop}
+use Rattle.kb_device.proofs.Flying.{call_flies, call_stops}
 use Rattle.kb_device.proofs.device.Device.call.Goals as goal
 
 pub returns-in_default-clause-goes : goal.returns-in_default-clause-goes
@@ -43,4 +44,27 @@ returns-clause-goes g c seed names v view =
       rest_view device _ v t.journal.disk refl refl refl c.rest.ensures.disk c.rest.ensures.ended view,
       calls_stop g.S.Sealer.sealed g.S.Sealer.signed g.H.BlockHash.hashed seed names v (inside s) (inside t) (inside_of device v s view c.in-Some.is) device.number view.number c.args.request.now c.args.moment (platter g.D.Disk s.journal.disk) (platter g.D.Disk t.journal.disk)
           (disk_of device v s view none c.in-Some.is) c.call-answer.result h.does h.running (sym c.has_stopped_calling.ensures ∙ c.if-not-has_stopped_calling.false),
+    )
+
+pub returns-in_default-clause-flies : goal.returns-in_default-clause-flies
+returns-in_default-clause-flies g c v view = (v, same_view c.args.self.now _ v refl refl refl refl refl view, refl)
+
+pub returns-then-not-has_stopped_calling-clause-flies : goal.returns-then-not-has_stopped_calling-clause-flies
+returns-then-not-has_stopped_calling-clause-flies g c v view =
+    let device = c.args.self.now in
+    let s = c.in-Some.session in
+    let t = c.call-answer.new.self in
+    let none : device.resting ≡ None = none_of device.resting (no_rest (is_some device.resting) (is_some device.session) device.one (ap is_some c.in-Some.is)) in (
+      record v { disk = platter g.D.Disk t.journal.disk; inside = Some (inside t) },
+      next_view device _ v t refl refl refl none refl view,
+      call_flies v (record v { disk = platter g.D.Disk t.journal.disk; inside = Some (inside t) }) (inside s) (inside t) (inside_of device v s view c.in-Some.is) refl device.number (platter g.D.Disk s.journal.disk) (platter g.D.Disk t.journal.disk) c.args.request.now c.args.moment c.call-answer.result c.call-answer.ensures.does (sym c.has_stopped_calling.ensures ∙ c.if-not-has_stopped_calling.true),
+    )
+
+pub returns-clause-flies : goal.returns-clause-flies
+returns-clause-flies g c v view =
+    let device = c.args.self.now in
+    let t = c.call-answer.new.self in (
+      record v { disk = platter g.D.Disk t.journal.disk; inside = None },
+      rest_view device _ v t.journal.disk refl refl refl c.rest.ensures.disk c.rest.ensures.ended view,
+      call_stops v (record v { disk = platter g.D.Disk t.journal.disk; inside = None }) refl c.call-answer.result (sym c.has_stopped_calling.ensures ∙ c.if-not-has_stopped_calling.false),
     )

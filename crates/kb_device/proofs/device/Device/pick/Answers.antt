@@ -6,6 +6,7 @@ use Rattle.kb_device.proofs.Views.{inside_of, outside_of, disk_of, same_view, ke
 use Rattle.kb_device.proofs.Answering.{closed_pick, pick_answers}
 use Rattle.kb_device.proofs.Few.{pick_is_few}
 use Rattle.kb_device.proofs.Aloft.{picks_wait, err_by}
+use Rattle.kb_device.proofs.Flying.{pick_flies}
 use Rattle.kb_device.proofs.device.Device.pick.Goals as goal
 
 pub returns-in_default-clause-goes : goal.returns-in_default-clause-goes
@@ -52,3 +53,19 @@ pub returns-clause-few : goal.returns-clause-few
 returns-clause-few g c seed names v view =
     let s = c.in-Some.session in
     pick_is_few g.S.Sealer.sealed g.S.Sealer.signed g.H.BlockHash.hashed c.few_law.ensures seed names v c.args.self.now.secret (inside s) (inside c.pick.new.self) (inside_of c.args.self.now v s view c.in-Some.is) (c.requires.runs s c.in-Some.is).running c.pick.result c.pick.ensures.does
+
+pub returns-in_default-clause-flies : goal.returns-in_default-clause-flies
+returns-in_default-clause-flies g c v view = (v, same_view c.args.self.now _ v refl refl refl refl refl view, refl)
+
+pub returns-clause-flies : goal.returns-clause-flies
+returns-clause-flies g c v view =
+    let device = c.args.self.now in
+    let s = c.in-Some.session in
+    let t = c.pick.new.self in
+    let h = c.pick.ensures in
+    let none : device.resting ≡ None = none_of device.resting (no_rest (is_some device.resting) (is_some device.session) device.one (ap is_some c.in-Some.is)) in
+    let disk : v.disk ≡ platter g.D.Disk t.journal.disk = disk_of device v s view none c.in-Some.is ∙ ap (λ j. platter g.D.Disk j.disk) (sym h.journal) in (
+      record v { inside = Some (inside t) },
+      kept_view device _ v t refl refl refl none refl disk view,
+      pick_flies v (record v { inside = Some (inside t) }) (inside s) (inside t) (inside_of device v s view c.in-Some.is) refl g.S.Sealer.sealed g.S.Sealer.signed g.H.BlockHash.hashed device.secret c.pick.result h.does,
+    )
