@@ -4,6 +4,7 @@
 
 mod answers;
 mod behind;
+mod block_parts;
 mod caching;
 mod called;
 mod calling;
@@ -33,6 +34,7 @@ mod settling;
 mod step_requests;
 
 pub use answers::{NoteFault, Noted, OpenFault, PickFault, Picked, PullFault, PutAnswer};
+pub use block_parts::Parts;
 pub use called::{CallFault, Called, Closed, LookFault, Status};
 pub use device::Device;
 pub use fetched::FetchFault;
