@@ -18,7 +18,7 @@ use Rattle.kb_device.specs.Parts.{Merger, Flight, Part, NoteStops, CallStep, Pic
 use Rattle.kb_snap.specs.Lawful.{IsLawful}
 use Rattle.kb_device.specs.Meets.{PartMeets, PutMeets}
 use Rattle.kb_device.proofs.Calls.{call_fits}
-use Rattle.kb_device.proofs.Parts.{at_session, at_journal, at_area, at_drop, ended_part, adds_part, breaks_part, picks_part, lands_part, lands_known, parts_part, marked, kept_part, pulls_part, head_meets, planned_part, closed_part, opened_part, not_opened_part}
+use Rattle.kb_device.proofs.PartSteps.{at_session, at_journal, at_area, at_drop, ended_part, adds_part, breaks_part, picks_part, lands_part, lands_known, parts_part, marked, kept_part, pulls_part, head_meets, planned_part, closed_part, opened_part, not_opened_part}
 use Rattle.kb_device.proofs.Puts.{settle_part, settle_known, settle_lost, long}
 use Rattle.kb_device.proofs.Steps.{refused, answer_at, keeps}
 

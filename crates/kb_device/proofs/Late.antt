@@ -10,7 +10,7 @@ use Rattle.kb_device.specs.Parts.{Part, ended}
 use Rattle.kb_device.specs.Meets.{Meets, PartMeets, AskMeets}
 use Rattle.kb_device.specs.Late.{IsOut, AskIsOut}
 use Rattle.kb_device.proofs.Meets.{put_step, meets_step}
-use Rattle.kb_device.proofs.Parts.{all_two, at_session, flight_there}
+use Rattle.kb_device.proofs.PartSteps.{all_two, at_session, flight_there}
 use Rattle.kb_device.proofs.PartLonger.{all_both}
 
 -- the request that waited as a call was stopped

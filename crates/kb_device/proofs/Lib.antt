@@ -32,7 +32,7 @@ pub mod Meeting
 pub mod Takings
 pub mod Starts
 pub mod Meets
-pub mod Parts
+pub mod PartSteps
 pub mod PartLonger
 pub mod Owned
 pub mod Calls

@@ -22,7 +22,7 @@ use Rattle.kb_device.specs.Disks as front
 use Rattle.kb_device.specs.Disks.{IsKept}
 use Rattle.kb_device.specs.Parts.{Part, Flies, NoteStops, IsRefused, NoteStep, ended}
 use Rattle.kb_device.specs.Meets.{Meets, AnswerMeets, IsStep, PartMeets, PutMeets}
-use Rattle.kb_device.proofs.Parts.{at_session, at_journal}
+use Rattle.kb_device.proofs.PartSteps.{at_session, at_journal}
 use Rattle.kb_device.proofs.Meets.{step_tree}
 use Rattle.kb_device.proofs.Steps.{answer_at}
 use Rattle.kb_folder.specs.Chains.{Names}

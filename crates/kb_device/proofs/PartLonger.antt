@@ -11,7 +11,7 @@ use Rattle.kb_device.specs.Meets.{Meets, Flying, FlightMeets, SessionMeets, Part
 use Rattle.kb_device.specs.Waits.{Waiting, Nothing, Asked, Answered, WaitingMeets}
 use Rattle.kb_snap.proofs.Chains.{tree_longer, roles_longer}
 use Rattle.kb_device.proofs.Meets.{meets_longer, none_longer, is_step_longer}
-use Rattle.kb_device.proofs.Parts.{Stands, at_journal, acknowledges_longer}
+use Rattle.kb_device.proofs.PartSteps.{Stands, at_journal, acknowledges_longer}
 use Rattle.kb_device.specs.PartLaws.{OthersKeep}
 
 pub all_both : {A : Type 0} (P Q : A → Type 0) (xs : List A) → All P xs → All Q xs → All (λ x. P x × Q x) xs

@@ -21,7 +21,7 @@ use Rattle.kb_snap.specs.Lawful.{CountsFrom}
 use Rattle.kb_device.specs.Parts.{Flight, Part, Picks as Picking, PickStep, flight_of, ask_of}
 use Rattle.kb_snap.specs.Puts.{Ask}
 use Rattle.kb_device.specs.Meets.{Meets, PartMeets}
-use Rattle.kb_device.proofs.Parts.{at_journal}
+use Rattle.kb_device.proofs.PartSteps.{at_journal}
 use Rattle.kb_folder.specs.Chains.{Names}
 use Rattle.kb_folder.specs.Stands.{Revisions, head_of, keys_to}
 use Rattle.kb_folder.specs.Puts.{Held}

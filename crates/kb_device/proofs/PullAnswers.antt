@@ -9,7 +9,7 @@ use Rattle.kb_device.specs.Journals.{plain}
 use Rattle.kb_device.specs.Meets.{PartMeets}
 use Rattle.kb_device.specs.Parts.{Part, PullStep}
 use Rattle.kb_device.proofs.Owned.{landed_length}
-use Rattle.kb_device.proofs.Parts.{at_journal}
+use Rattle.kb_device.proofs.PartSteps.{at_journal}
 use Rattle.kb_folder.specs.Chains.{Names}
 use Rattle.kb_folder.specs.Puts.{Held}
 use Rattle.kb_folder.specs.Held.{is_member}

@@ -17,7 +17,7 @@ use Rattle.kb_device.specs.Journals.{Journal, plain}
 use Rattle.kb_device.specs.Disks as front
 use Rattle.kb_device.specs.Parts.{Part, PullStep, ended}
 use Rattle.kb_device.specs.Meets.{Meets, PartMeets}
-use Rattle.kb_device.proofs.Parts.{at_session, at_journal}
+use Rattle.kb_device.proofs.PartSteps.{at_session, at_journal}
 use Rattle.kb_folder.specs.Chains.{Names}
 use Rattle.kb_folder.specs.Stands.{keys_to}
 use Rattle.kb_folder.specs.Puts.{Held}

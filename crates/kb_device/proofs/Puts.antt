@@ -15,7 +15,7 @@ use Rattle.kb_snap.proofs.Lists.{append_none, cut}
 use Rattle.kb_snap.proofs.Chains.{ops_append, tree_longer, roles_longer}
 use Rattle.kb_snap.proofs.Counts.{own_take, counts_take, fit_take}
 use Rattle.kb_device.proofs.Meets.{put_step, meets_step, put_merge, meets_merge, Knows, merge_known}
-use Rattle.kb_device.proofs.Parts.{all_one, at_may, acknowledges_longer, Stands, at_session, at_journal, at_area, at_drop, at_held, open_part, open_acknowledges, ended_part, ended_acknowledges, flight_there}
+use Rattle.kb_device.proofs.PartSteps.{all_one, at_may, acknowledges_longer, Stands, at_session, at_journal, at_area, at_drop, at_held, open_part, open_acknowledges, ended_part, ended_acknowledges, flight_there}
 use Rattle.kb_snap.proofs.MadeIds.{last_counts}
 use Rattle.kb_device.proofs.Merging.{branch_meets}
 

@@ -63,7 +63,7 @@ use Rattle.kb_device.proofs.Longer.{chain_length, hash_longer, closed_longer}
 use Rattle.kb_device.proofs.MergedPointers.{left_hold}
 use Rattle.kb_device.proofs.Notings.{stands_with, stands_closed}
 use Rattle.kb_device.proofs.Owned.{landed_length}
-use Rattle.kb_device.proofs.Parts.{at_session, at_journal}
+use Rattle.kb_device.proofs.PartSteps.{at_session, at_journal}
 use Rattle.kb_device.proofs.Picks.{inside_at, closed_at, ring_key, head_known}
 use Rattle.kb_device.proofs.Puts.{settle_follows, settle_part}
 use Rattle.kb_device.proofs.Remember.{taken as remembers_taken}

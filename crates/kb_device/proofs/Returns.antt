@@ -22,7 +22,7 @@ use Rattle.kb_snap.proofs.Lawful.{ordered}
 use Rattle.kb_snap.proofs.MadeIds.{last_counts}
 use Rattle.kb_device.proofs.Meets.{Knows, met, held_length, goes_on, over_known}
 use Rattle.kb_snap.proofs.Counts.{counts_append}
-use Rattle.kb_device.proofs.Parts.{Stands, all_one, there, same_last, shelf_last}
+use Rattle.kb_device.proofs.PartSteps.{Stands, all_one, there, same_last, shelf_last}
 
 -- ---- later operations
 

@@ -19,7 +19,7 @@ use Rattle.kb_device.specs.Disks as front
 use Rattle.kb_device.specs.Parts.{Part, Takes, QueueRefuses, CallStep, ended, plan_at}
 use Rattle.kb_device.specs.Parts as parts
 use Rattle.kb_device.specs.Meets.{Meets, PartMeets}
-use Rattle.kb_device.proofs.Parts.{at_journal}
+use Rattle.kb_device.proofs.PartSteps.{at_journal}
 use Rattle.kb_folder.specs.Chains.{Names}
 use Rattle.kb_folder.specs.Puts.{Held}
 use Rattle.kb_folder.specs.Goes.{HasChain}

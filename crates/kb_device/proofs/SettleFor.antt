@@ -10,7 +10,7 @@ use Rattle.kb_device.specs.Journals.{Journal}
 use Rattle.kb_snap.specs.Lawful.{AreFew, FitsMerge, IsLawful}
 use Rattle.kb_device.specs.Parts.{Flight, Part, HasPlan, tree_shown, merge_ask}
 use Rattle.kb_device.specs.Meets.{NoneOf, Meets, FlightMeets, SessionMeets, PartMeets}
-use Rattle.kb_device.proofs.Parts.{at_session, at_journal}
+use Rattle.kb_device.proofs.PartSteps.{at_session, at_journal}
 use Rattle.kb_device.proofs.Puts.{base_all}
 use Rattle.kb_snap.proofs.MadeIds.{last_counts}
 use Rattle.kb_device.proofs.Merging.{branch_meets}

@@ -21,7 +21,7 @@ use Rattle.kb_snap.specs.Lawful.{AreFew, Follows, IsLawful}
 use Rattle.kb_device.specs.Meets.{NoneOf, AnswerMeets, PartMeets, Acknowledges, PutMeets}
 use Rattle.kb_device.specs.Waits.{Waiting, Nothing, Asked, Answered, waiting_if, WaitingMeets}
 use Rattle.kb_device.proofs.Calls.{call_fits}
-use Rattle.kb_device.proofs.Parts.{Stands, at_session, at_journal, one_is, no_waiting, adds_keeps, breaks_keeps, picks_keeps, lands_keeps, land_breaks, parts_keeps, part_breaks, kept_keeps, pulls_keeps, pull_breaks, planned_keeps, closed_keeps, shelved_keeps, opened_keeps, not_opened_keeps}
+use Rattle.kb_device.proofs.PartSteps.{Stands, at_session, at_journal, one_is, no_waiting, adds_keeps, breaks_keeps, picks_keeps, lands_keeps, land_breaks, parts_keeps, part_breaks, kept_keeps, pulls_keeps, pull_breaks, planned_keeps, closed_keeps, shelved_keeps, opened_keeps, not_opened_keeps}
 use Rattle.kb_device.proofs.Returns.{restored_keeps}
 use Rattle.kb_device.proofs.Puts.{settle_follows, settle_keeps, settle_breaks, settle_lost_keeps, no_flight, land_follows, land_keeps}
 

@@ -17,7 +17,7 @@ use Rattle.kb_world.specs.Good.{IsGood}
 use Rattle.kb_world.specs.RunLaws.{TurnAsks, IsDevice, IsAsked, IsPlain}
 use Rattle.kb_world.specs.RunReplies.{IsInRange, IsEarly, IsOneOf, MayStand, declared_by, founded_by, MayFollow, ScriptsHaveReplies, ScriptsAreAnswered}
 use Rattle.kb_snap.proofs.Lists.{append_none, member_at}
-use Rattle.kb_device.proofs.Parts.{at_session}
+use Rattle.kb_device.proofs.PartSteps.{at_session}
 use Rattle.kb_world.proofs.GoodStates.{device_meets}
 use Rattle.kb_world.proofs.Machine.{act_keeps, steps_keep, new_good}
 use Rattle.kb_world.proofs.PartAnswers.{part_answers}

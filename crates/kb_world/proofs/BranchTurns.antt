@@ -43,7 +43,7 @@ use Rattle.kb_device.specs.declared.fetched.FetchFault.{FetchFault}
 use Rattle.kb_device.specs.declared.fetched.FetchFault.TheVariants as fetch
 use Rattle.kb_device.specs.declared.settled.SettleFault.{SettleFault}
 use Rattle.kb_device.specs.declared.settled.SettleFault.TheVariants as settle
-use Rattle.kb_device.proofs.Parts.{at_session, at_journal}
+use Rattle.kb_device.proofs.PartSteps.{at_session, at_journal}
 use Rattle.kb_device.proofs.Picks.{inside_at, closed_at}
 use Rattle.kb_world.specs.Statements.{ByFetch}
 use Rattle.kb_world.specs.Machine.{Member, Does, went}

@@ -20,7 +20,7 @@ use Rattle.kb_device.specs.Inside.{Plan}
 use Rattle.kb_device.specs.Behind.{PlainOpsLead}
 use Rattle.kb_device.specs.Journals.{Journal, plain}
 use Rattle.kb_device.specs.Stands as inner
-use Rattle.kb_device.proofs.Parts.{at_session, at_journal}
+use Rattle.kb_device.proofs.PartSteps.{at_session, at_journal}
 use Rattle.kb_device.proofs.Picks.{inside_at}
 use Rattle.kb_device.specs.Forms.{StandsLonger}
 use Rattle.kb_device.specs.Answering.{AnswersStay}

@@ -23,7 +23,7 @@ use Rattle.kb_device.specs.Waits.{Waiting, Nothing, Answered}
 use Rattle.kb_world.specs.Good.{IsGood}
 use Rattle.kb_world.specs.RunLaws.{is_plain}
 use Rattle.kb_world.specs.RunReplies.{disarmed_part, disarmed_member, disarmed, RepliesTellAll, OpeningsChoose}
-use Rattle.kb_device.proofs.Parts.{one_is}
+use Rattle.kb_device.proofs.PartSteps.{one_is}
 use Rattle.kb_world.proofs.Determined.{map_set, journal_of, IsOne, at_one, sessions_one, parts_determined}
 
 -- ---- what a stop leaves of a part

@@ -9,7 +9,7 @@ use Rattle.kb_device.specs.Meets.{NoneOf, Meets, FlightMeets, FitsArea}
 use Rattle.kb_world.specs.Machine.{Member, State, new_state}
 use Rattle.kb_world.specs.Good.{MemberMeets, IsGood}
 use Rattle.kb_world.specs.RunLaws.{RunsAreGood, IsDevice, GoodIsOwned, ShowsKnown, EqualsShowEqual, BranchesMeet, NoneForeign, OneBeyond, ShelvesAreOld, ReturnsMeet, QueuesAreSpelled}
-use Rattle.kb_device.proofs.Parts.{at_session, at_journal}
+use Rattle.kb_device.proofs.PartSteps.{at_session, at_journal}
 use Rattle.kb_device.proofs.Owned.{owns, is_owned, has_one}
 use Rattle.kb_device.proofs.Merging.{branch_meets}
 use Rattle.kb_device.proofs.Foreign.{not_foreign}

@@ -11,7 +11,7 @@ use Rattle.kb_device.specs.Answers.{Called, CallFault, LookFault, Status, TellFa
 use Rattle.kb_device.specs.Answers as answers
 use Rattle.kb_device.specs.Parts.{Part, Flight, CallStep, PickStep, NoteStep}
 use Rattle.kb_device.specs.Waits.{Waiting, Nothing, Asked, Answered, waiting_if, WaitingMeets}
-use Rattle.kb_device.proofs.Parts.{no_waiting}
+use Rattle.kb_device.proofs.PartSteps.{no_waiting}
 use Rattle.kb_world.specs.Machine.{Member, State, ActStep}
 use Rattle.kb_world.specs.Live.{Event, Calls, Looks, Tells, Picks, Notes, Put, Replays, Told, event_act, event_reply}
 use Rattle.kb_world.proofs.Worlds.{same_set}

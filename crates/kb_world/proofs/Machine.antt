@@ -26,7 +26,7 @@ use Rattle.std.proofs.lemmas.List.{length-set}
 use Rattle.kb_snap.proofs.Lists.{get_there}
 use Rattle.kb_world.proofs.Rows.{plan_few}
 use Rattle.kb_snap.proofs.Lawful.{lawful_push}
-use Rattle.kb_device.proofs.Parts.{Stands, all_one, left_keeps, powered_keeps}
+use Rattle.kb_device.proofs.PartSteps.{Stands, all_one, left_keeps, powered_keeps}
 use Rattle.kb_world.proofs.MemberLonger.{member_longer}
 use Rattle.kb_device.proofs.Steps.{Grows, closed_waiting, call_keeps, pick_keeps, no_pick_keeps, pull_keeps, fetch_keeps, open_keeps, settle_grows, note_keeps, put_grows, lost_grows, backup_keeps, restore_keeps}
 

@@ -3,7 +3,7 @@ use Rattle.std.proofs.Common.{◌≡◌, ℕ, ◌≤◌, [], ◌∷◌, ◌++◌
 use Rattle.kb_snap.specs.Chains.{Revision, Chain, ops_by}
 use Rattle.kb_world.specs.Machine.{Member}
 use Rattle.kb_world.specs.Good.{MemberMeets}
-use Rattle.kb_device.proofs.Parts.{acknowledges_longer}
+use Rattle.kb_device.proofs.PartSteps.{acknowledges_longer}
 use Rattle.kb_device.proofs.PartLonger.{part_longer, waiting_longer}
 
 -- the device with what a state keeps of it

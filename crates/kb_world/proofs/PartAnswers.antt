@@ -36,7 +36,7 @@ use Rattle.kb_snap.specs.Rekeys.{RekeyStep}
 use Rattle.kb_world.specs.Statements as statements
 use Rattle.kb_world.specs.Good.{MemberMeets, IsGood}
 use Rattle.kb_world.specs.RunLaws.{IsDevice, IsChange, IsAsked, hides_apart, IsPlain, PartsAnswer}
-use Rattle.kb_device.proofs.Parts.{at_journal}
+use Rattle.kb_device.proofs.PartSteps.{at_journal}
 use Rattle.kb_world.proofs.GoodStates.{device_meets}
 use Rattle.kb_snap.proofs.Lists.{get_there}
 use Rattle.kb_world.proofs.Roles.{last_writer}

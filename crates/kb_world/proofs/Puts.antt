@@ -24,7 +24,7 @@ use Rattle.kb_world.specs.Machine.{Member, IsNotAsked, PutsAsk, LosesAsk, PutsNo
 use Rattle.kb_world.specs.Good.{MemberMeets}
 use Rattle.kb_snap.proofs.Lists.{append_none}
 use Rattle.kb_device.proofs.Sent.{sent_stays}
-use Rattle.kb_device.proofs.Parts.{at_session, closed_part}
+use Rattle.kb_device.proofs.PartSteps.{at_session, closed_part}
 use Rattle.kb_device.proofs.Puts.{land_follows}
 use Rattle.kb_device.proofs.Steps.{refused}
 use Rattle.kb_folder.specs.Chains.{Names}

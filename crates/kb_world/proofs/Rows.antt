@@ -16,7 +16,7 @@ use Rattle.kb_world.specs.RunReplies.{HasFew, FewRows}
 use Rattle.kb_snap.proofs.Lists.{get_there, member_at}
 use Rattle.kb_snap.proofs.Chains.{by_writer}
 use Rattle.kb_device.proofs.Owned.{landed_length}
-use Rattle.kb_device.proofs.Parts.{at_session, at_journal}
+use Rattle.kb_device.proofs.PartSteps.{at_session, at_journal}
 use Rattle.kb_snap.proofs.RowCounts.{AllIn, fold_in, ids_few, ids_of, rows_few, sum_add, sum_most, sum_one, sum_to, total, trees_in}
 
 length-names : (members : List Member) → length (names_of members) ≡ length members

@@ -35,7 +35,7 @@ use Rattle.kb_world.specs.Statements.{ByCall, ByNote, ByPull, BySettle, ByOpen}
 use Rattle.kb_device.specs.Links.{LinkAfter}
 use Rattle.kb_world.specs.RunLaws.{hides_apart, IsPlain}
 use Rattle.kb_world.specs.RunReplies.{disarmed_part}
-use Rattle.kb_device.proofs.Parts.{one_is, all_one}
+use Rattle.kb_device.proofs.PartSteps.{one_is, all_one}
 use Rattle.kb_world.proofs.PartAnswers.{PutApart}
 
 -- ---- tests

@@ -26,7 +26,7 @@ use Rattle.kb_snap.specs.PutForms.{PutGoes, RequestsStay}
 use Rattle.kb_snap.proofs.Lists.{append_none, get_there, member_at}
 use Rattle.kb_world.proofs.GoodStates.{device_meets}
 use Rattle.kb_world.proofs.Machine.{get_set, act_keeps}
-use Rattle.kb_device.proofs.Parts.{closed_part}
+use Rattle.kb_device.proofs.PartSteps.{closed_part}
 use Rattle.kb_device.proofs.Steps.{refused}
 use Rattle.kb_device.proofs.Puts.{land_follows}
 use Rattle.kb_snap.specs.Lawful.{Extends}
